@@ -1,0 +1,41 @@
+-- The laws of `rowsIn`. Assumes nothing.
+use mathlib.Core.Path.{_≡_, refl, sym, ap, _∙_}
+use mathlib.Core.Bool.{Bool, true, false, cond}
+use Prim.Native.Nat.{ℕ, zero, suc, _+_, _*_, _/_, _%_, _<_, _≤_}
+use native.Mathlib.Nat.{div-add-mod, div-zero, mul-mod-right, mul-div-cancel-left}
+use native.Mathlib.Omega.{arith}
+use lib.Dec.{eqb, leb}
+use borrow.Author.Tests.{eqb-true, leb-true, le-leb}
+use Rattle.answer.specs.Length.{rowsIn, mostRows}
+
+-- What a length that refusal 1 does not name is made of.
+pub record Whole (unit n rows : ℕ) : Type 0 where
+  pub some : 0 < rows
+  pub most : rows ≤ mostRows
+  pub whole : unit * rows ≡ n
+
+pub rows-whole : (unit n : ℕ) → 0 < rowsIn unit n → Whole unit n (rowsIn unit n)
+unfolding rowsIn
+rows-whole unit n h = go (eqb (n % unit) 0) refl (leb (n / unit) mostRows) refl h
+  where
+    go : (b : Bool) → eqb (n % unit) 0 ≡ b → (d : Bool) → leb (n / unit) mostRows ≡ d → 0 < cond b (cond d (n / unit) 0) 0
+        → Whole unit n (cond b (cond d (n / unit) 0) 0)
+    go true e true f h =
+        record { some = h; most = leb-true _ _ f; whole = omega (arith, div-add-mod n unit, eqb-true (n % unit) 0 e) }
+    go true e false f h = absurd (omega arith)
+    go false e true f h = absurd (omega arith)
+    go false e false f h = absurd (omega arith)
+
+-- As many whole units as are allowed are that many rows.
+pub rows-of : (unit rows : ℕ) → 0 < unit → rows ≤ mostRows → rowsIn unit (unit * rows) ≡ rows
+unfolding rowsIn
+rows-of unit rows some most = simp (mul-mod-right, mul-div-cancel-left rows some, le-leb rows mostRows most)
+
+-- A unit of nothing makes no row.
+pub rows-zero : (n : ℕ) → rowsIn 0 n ≡ 0
+unfolding rowsIn
+rows-zero n = rw div-zero (go (eqb (n % 0) 0))
+  where
+    go : (b : Bool) → _≡_ {A = ℕ} (cond b 0 0) 0
+    go true = refl
+    go false = refl

@@ -1,0 +1,3 @@
+-- The laws about answers that the crates above cite.
+pub mod Places
+pub mod Lengths

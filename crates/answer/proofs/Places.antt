@@ -1,0 +1,41 @@
+-- The laws of `first`: which place it is, and what it says of the places before it. Assumes nothing.
+use mathlib.Core.Path.{_≡_, refl, sym, ap, _∙_}
+use mathlib.Core.Bool.{Bool, true, false, cond}
+use Prim.Native.Nat.{ℕ, zero, suc, _<_, _≤_, suc-le-suc}
+use native.Mathlib.Nat.{le-of-suc-le-suc, not-suc-le-zero, zero-lt-suc}
+use native.Mathlib.Omega.{arith}
+use Rattle.answer.specs.First.{first}
+
+-- The test holds at i and at no place before it.
+pub first-is : (test : ℕ → Bool) (n i : ℕ) → i < n → ((k : ℕ) → k < i → test k ≡ false) → test i ≡ true → first test n ≡ i
+unfolding first
+first-is test zero i h before here = absurd (not-suc-le-zero h)
+first-is test (suc n) zero h before here = rw here
+first-is test (suc n) (suc i) h before here =
+    rw (before 0 (zero-lt-suc i))
+    (ap suc (first-is (λ k. test (suc k)) n i (le-of-suc-le-suc h) (λ k l. before (suc k) (suc-le-suc l)) here))
+
+-- The test holds at no place.
+pub first-none : (test : ℕ → Bool) (n : ℕ) → ((k : ℕ) → k < n → test k ≡ false) → first test n ≡ n
+unfolding first
+first-none test zero before = refl
+first-none test (suc n) before =
+    rw (before 0 (zero-lt-suc n)) (ap suc (first-none (λ k. test (suc k)) n (λ k l. before (suc k) (suc-le-suc l))))
+
+-- A search that has passed every place.
+pub first-end : (test : ℕ → Bool) (n i : ℕ) → i ≤ n → n ≤ i → ((k : ℕ) → k < i → test k ≡ false) → i ≡ first test n
+first-end test n i most least before =
+    let all : i ≡ n = omega arith in
+    all ∙ sym (first-none test n (λ k l. before k (omega arith)))
+
+-- Before the first place the test does not hold.
+pub before-first : (test : ℕ → Bool) (n : ℕ) (k : ℕ) → k < first test n → test k ≡ false
+unfolding first
+before-first test zero k h = absurd (not-suc-le-zero h)
+before-first test (suc n) k h = go (test 0) refl (before-first (λ i. test (suc i)) n) k h
+  where
+    go : (b : Bool) → test 0 ≡ b → ((k : ℕ) → k < first (λ i. test (suc i)) n → test (suc k) ≡ false)
+        → (k : ℕ) → k < cond b 0 (suc (first (λ i. test (suc i)) n)) → test k ≡ false
+    go true e later k h = absurd (not-suc-le-zero h)
+    go false e later zero h = e
+    go false e later (suc k) h = later k (le-of-suc-le-suc h)

@@ -1,0 +1,57 @@
+// What every operation on lent storage answers: a count, or a refusal with its place.
+//
+// The layer below every other: it uses nothing. The definition `told` (specs/Told.antt) gives
+// document 01's number and values for each case, and every promise about an answer uses it. The
+// rule of refusal 1 stands here too, since reading, writing and scoring share it.
+ghost use mathlib.Core.Path.{_≡_};
+ghost use Rattle.answer.specs.Length.{rowsIn};
+
+// Document 01: "Each answer is either the count or a refusal with row and column".
+pub enum Answer {
+    // Rows for a reader, bytes for a writer.
+    Count(u32),
+    // A refusal's number, and its row and column, both from 1; 0 where it has no place.
+    Refused { number: u32, row: u32, column: u32 },
+}
+
+// Document 01, "What a refused sheet is told": a refusal's number, with the trade's word for it.
+
+// Sheet length.
+pub const SHEET_LENGTH: u32 = 1;
+// Misprint.
+pub const MISPRINT: u32 = 2;
+// Row out of order.
+pub const ROW_OUT_OF_ORDER: u32 = 3;
+// Out of range.
+pub const OUT_OF_RANGE: u32 = 4;
+// Too many walls.
+pub const TOO_MANY_WALLS: u32 = 5;
+// Ends exceed storey.
+pub const ENDS_EXCEED_STOREY: u32 = 6;
+// Mark on absent part.
+pub const MARK_ON_ABSENT_PART: u32 = 7;
+// No parts.
+pub const NO_PARTS: u32 = 8;
+// Lent space short.
+pub const LENT_SPACE_SHORT: u32 = 9;
+
+// The most lines of a sheet, and the most rows of a table.
+pub const MOST_ROWS: usize = 311;
+
+// How many lines of `unit` bytes, or rows of `unit` numbers, a length holds; 0 where refusal 1 is
+// due: nothing lent, a length that is no multiple of `unit`, or too many lines or rows.
+pub fn rows_in(length: usize, unit: usize) -> usize
+    ensures { λ r. ⌜ r ≡ rowsIn unit length ⌝ }
+{
+    if unit == 0 {
+        return 0;
+    }
+    if length % unit != 0 {
+        return 0;
+    }
+    let rows = length / unit;
+    if MOST_ROWS < rows {
+        return 0;
+    }
+    rows
+}

@@ -1,0 +1,47 @@
+-- One field. Document 01: "A field is a decimal number, right-justified, padded left with spaces, no sign, no leading zero; zero is
+-- written 0, never blank." Characters are bytes: 32 is the space, 48 to 57 are the digits 0 to 9.
+use Prim.Native.Nat.{ℕ, _+_, _-_, _*_, _/_, _%_}
+use mathlib.Core.Bool.{Bool, true, false, cond, _&&_}
+use mathlib.Core.List.{List, [], _∷_, foldl}
+use lib.Dec.{eqb, leb, ltb}
+use Rattle.sheet.specs.declared.field.Field.{Field}
+use Rattle.sheet.specs.declared.field.Field.the-variants.{Blank, Number, Misprint}
+
+abbrev pub isDigit : ℕ → Bool
+isDigit character = leb 48 character && leb character 57
+
+-- A number that one more digit makes longer.
+unfoldable pub digitAfter : ℕ → ℕ → Field
+digitAfter n character = cond (isDigit character) (Number (10 * n + (character - 48))) Misprint
+
+-- What the characters of a field make so far, with one character more. After spaces alone comes a space or the first digit; after a
+-- number comes a digit, and nothing comes after a first 0.
+unfoldable pub after : Field → ℕ → Field
+after Blank character = cond (eqb character 32) Blank (digitAfter 0 character)
+after (Number n) character = cond (eqb n 0) Misprint (digitAfter n character)
+after Misprint character = Misprint
+
+-- What the characters make, read from the left.
+unfoldable pub field : List ℕ → Field
+field characters = foldl after Blank characters
+
+-- Whether they are a field as described, and which number it is.
+unfoldable pub isNumber : Field → Bool
+isNumber Blank = false
+isNumber (Number n) = true
+isNumber Misprint = false
+
+unfoldable pub value : Field → ℕ
+value Blank = 0
+value (Number n) = n
+value Misprint = 0
+
+-- The character of a number's digit that counts `weight` times, 10 or more: a space to the left of the number.
+unfoldable pub place : ℕ → ℕ → ℕ
+place weight n = cond (ltb n weight) 32 (48 + n / weight % 10)
+
+-- A number's field: its eight characters.
+unfoldable pub printed : ℕ → List ℕ
+printed n =
+    place 10000000 n ∷ place 1000000 n ∷ place 100000 n ∷ place 10000 n
+    ∷ place 1000 n ∷ place 100 n ∷ place 10 n ∷ (48 + n % 10) ∷ []

@@ -1,0 +1,91 @@
+// One field: its characters read as a number, and a number printed.
+ghost use mathlib.Core.Path.{_≡_};
+ghost use Prim.Native.Nat.{_<_, _≤_};
+ghost use lib.ListN.{length};
+ghost use Rattle.sheet.specs.Field.{value, digitAfter, after, field, place, printed};
+
+// What the characters of a field make so far.
+pub enum Field {
+    // Spaces alone.
+    Blank,
+    // Spaces, then a number.
+    Number(u32),
+    // No field.
+    Misprint,
+}
+
+// A number that one more digit makes longer.
+fn digit_after(n: u32, character: u8) -> Field
+    requires { ⌜ n < 10000000 ⌝ }
+    ensures { λ r. ⌜ r ≡ digitAfter n character ⌝ }
+{
+    if character < b'0' {
+        return Field::Misprint;
+    }
+    if b'9' < character {
+        return Field::Misprint;
+    }
+    Field::Number(10 * n + (character - b'0') as u32)
+}
+
+// What a field's characters make, with one character more.
+fn after(made: Field, character: u8) -> Field
+    requires { ⌜ value made < 10000000 ⌝ }
+    ensures { λ r. ⌜ r ≡ after made character ⌝ }
+{
+    match made {
+        Field::Blank => {
+            if character == b' ' {
+                return Field::Blank;
+            }
+            digit_after(0, character)
+        }
+        Field::Number(n) => {
+            if n == 0 {
+                return Field::Misprint;
+            }
+            digit_after(n, character)
+        }
+        Field::Misprint => Field::Misprint,
+    }
+}
+
+// What eight characters, or fewer, make.
+pub(crate) fn scan(characters: &[u8]) -> Field
+    requires { ⌜ length (now characters) ≤ 8 ⌝ }
+    ensures { λ r. ⌜ r ≡ field (now (characters .entry)) ⌝ }
+{
+    let mut made = Field::Blank;
+    let mut k = 0;
+    while k < characters.len() {
+        made = after(made, characters[k]);
+        k += 1;
+    }
+    made
+}
+
+// The character of the digit that counts `weight` times.
+fn place(weight: u32, n: u32) -> u8
+    requires { ⌜ 0 < weight ⌝ }
+    ensures { λ r. ⌜ r ≡ place weight n ⌝ }
+{
+    if n < weight {
+        return b' ';
+    }
+    b'0' + (n / weight % 10) as u8
+}
+
+// Prints a number over the eight characters of a field.
+pub(crate) fn print(n: u32, characters: &mut [u8])
+    requires { ⌜ length (now characters) ≡ 8 ⌝ }
+    ensures { λ _. ⌜ now (characters .exit) ≡ printed n ⌝ }
+{
+    characters[0] = place(10_000_000, n);
+    characters[1] = place(1_000_000, n);
+    characters[2] = place(100_000, n);
+    characters[3] = place(10_000, n);
+    characters[4] = place(1_000, n);
+    characters[5] = place(100, n);
+    characters[6] = place(10, n);
+    characters[7] = b'0' + (n % 10) as u8;
+}

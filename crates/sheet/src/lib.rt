@@ -1,0 +1,36 @@
+// The text format: a sheet read into a lent table, and a table written as a sheet.
+//
+// Uses `answer` alone. Document 01, "The sheet and the table" and "What a refused sheet is told";
+// the definitions stand in specs/Field.antt, Line.antt and Sheet.antt, in that order. The two
+// round-trip theorems are in proofs/RoundTrip.antt.
+mod field;
+mod line;
+mod reader;
+mod writer;
+
+use answer::Answer;
+pub use line::LINE;
+pub use line::ROW;
+pub use line::print_line;
+pub use reader::read;
+pub use writer::print_rows;
+pub use writer::write;
+ghost use mathlib.Core.Path.{_≡_};
+ghost use Prim.Native.Nat.{_<_};
+ghost use Rattle.answer.specs.Told.{told};
+ghost use Rattle.sheet.specs.Sheet.{refusalAt};
+
+// The refusal at a place that counts from 0, row by row of so many columns.
+fn refused_at(number: u32, at: usize, columns: usize) -> Answer
+    requires { ⌜ at < 4096 ⌝ }
+    requires { ⌜ 0 < columns ⌝ }
+    ensures { λ r. ⌜ told r ≡ refusalAt number columns at ⌝ }
+{
+    let row = at / columns;
+    let column = at % columns;
+    Answer::Refused {
+        number,
+        row: row as u32 + 1,
+        column: column as u32 + 1,
+    }
+}
