@@ -1,7 +1,7 @@
 -- The laws of `rowsIn`. Assumes nothing.
-use mathlib.Core.Path.{_≡_, refl, sym, ap, _∙_}
+use mathlib.Core.Path.{_≡_, refl, subst⁻¹}
 use mathlib.Core.Bool.{Bool, true, false, cond}
-use Prim.Native.Nat.{ℕ, zero, suc, _+_, _*_, _/_, _%_, _<_, _≤_}
+use Prim.Native.Nat.{ℕ, _*_, _/_, _%_, _<_, _≤_}
 use native.Mathlib.Nat.{div-add-mod, div-zero, mul-mod-right, mul-div-cancel-left}
 use native.Mathlib.Omega.{arith}
 use lib.Dec.{eqb, leb}
@@ -14,14 +14,13 @@ pub record Whole (unit n rows : ℕ) : Type 0 where
   pub most : rows ≤ mostRows
   pub whole : unit * rows ≡ n
 
-pub rows-whole : (unit n : ℕ) → 0 < rowsIn unit n → Whole unit n (rowsIn unit n)
+pub rows-whole : (unit n : ℕ) {rows : ℕ} → rows ≡ rowsIn unit n → (rows ≡ 0 → ⊥) → Whole unit n rows
 unfolding rowsIn
-rows-whole unit n h = go (eqb (n % unit) 0) refl (leb (n / unit) mostRows) refl h
+rows-whole unit n e some = subst⁻¹ (Whole unit n) e (go (eqb (n % unit) 0) refl (leb (n / unit) mostRows) refl (omega arith))
   where
     go : (b : Bool) → eqb (n % unit) 0 ≡ b → (d : Bool) → leb (n / unit) mostRows ≡ d → 0 < cond b (cond d (n / unit) 0) 0
         → Whole unit n (cond b (cond d (n / unit) 0) 0)
-    go true e true f h =
-        record { some = h; most = leb-true _ _ f; whole = omega (arith, div-add-mod n unit, eqb-true (n % unit) 0 e) }
+    go true e true f h = record { some = h; most = leb-true _ _ f; whole = omega (arith, div-add-mod n unit, eqb-true (n % unit) 0 e) }
     go true e false f h = absurd (omega arith)
     go false e true f h = absurd (omega arith)
     go false e false f h = absurd (omega arith)

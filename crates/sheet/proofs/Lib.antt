@@ -2,3 +2,4 @@
 pub mod Fields
 pub mod Lists
 pub mod Sheets
+pub mod Answers

@@ -2,18 +2,19 @@
 use mathlib.Core.Path.{_≡_, refl, sym, ap, _∙_}
 use mathlib.Core.Bool.{Bool, true, false, cond, not}
 use mathlib.Core.List.{List, [], _∷_, _++_}
-use Prim.Native.Nat.{ℕ, zero, suc, _+_, _*_, _/_, _%_, _<_, _≤_}
+use Prim.Native.Nat.{ℕ, _+_, _-_, _*_, _/_, _%_, _<_, _≤_}
 use native.Mathlib.Nat.{one-mul}
 use native.Mathlib.Numerals.{add-one}
 use native.Mathlib.Omega.{arith}
 use lib.Dec.{eqb, ltb}
 use lib.ListN.{length, getD, take, drop, set, length-append}
 use borrow.Author.Tests.{eq-eqb, ne-eqb, lt-ltb, le-ltb}
+use borrow.Rule.Slice.PartMut.{putMid}
 use Rattle.sheet.specs.Field.{field, isNumber, value, printed}
 use Rattle.sheet.specs.Line.{joined, part, line}
-use Rattle.sheet.specs.Sheet.{fieldAt, misprinted, over, numbersOf, linesOf}
+use Rattle.sheet.specs.Sheet.{fieldAt, misprinted, over, numbersOf, linesOf, afterPrinting}
 use Rattle.sheet.specs.declared.field.Field.{Field}
-use Rattle.sheet.proofs.Lists.{part-at, over-set, over-part, over-length, over-whole, joined-length}
+use Rattle.sheet.proofs.Lists.{part-at, over-set, over-part, over-length, over-whole, joined-length, joined-over}
 
 -- The last byte of a line.
 pub misprinted-end : (sheet : List ℕ) (at : ℕ) → at % 9 ≡ 8 → not (eqb (getD sheet (65 * (at / 9) + 64) 0) 10) ≡ misprinted sheet at
@@ -54,3 +55,34 @@ line-end row lent bytes e p =
     ap (λ (l : List ℕ). set l 64 10) p
     ∙ over-set lent (joined 8 (fields row)) 10 64 (fields-length row 8) (omega arith)
     ∙ over-whole lent (line row) (simp length-append (omega (arith, fields-length row 8)))
+
+pub line-length : (row : List ℕ) → length (line row) ≡ 65
+unfolding line
+line-length row = simp length-append (omega (arith, fields-length row 8))
+
+-- A table's lines, one after the other.
+pub lines-length : (n : ℕ) (table : List ℕ) → length (linesOf n table) ≡ 65 * n
+unfolding linesOf
+lines-length n table = joined-length 65 (λ i. line (part 8 i table)) (λ i. line-length (part 8 i table)) n
+
+pub lines-more : (table lent bytes y : List ℕ) (n : ℕ) → 65 * n + 65 ≤ length lent → bytes ≡ over lent (linesOf n table) → y ≡ line (part 8 n table)
+    → putMid (65 * n) (65 * n + 65 - 65 * n) bytes y ≡ over lent (linesOf (n + 1) table)
+unfolding linesOf
+lines-more table lent bytes y n h e g =
+    joined-over 65 (λ i. line (part 8 i table)) (λ i. line-length (part 8 i table)) lent bytes y n h e g
+
+-- Rows are printed where there is room for all of them, and else no byte changes.
+pub printing-short : (table sheet : List ℕ) → length sheet / 65 < length table / 8 → sheet ≡ afterPrinting table sheet
+unfolding afterPrinting
+printing-short table sheet h = rw (lt-ltb (length sheet) (65 * (length table / 8)) (omega arith))
+
+pub printing-room : (table sheet : List ℕ) → length table / 8 ≤ length sheet / 65
+    → over sheet (linesOf (length table / 8) table) ≡ afterPrinting table sheet
+unfolding afterPrinting
+printing-room table sheet h = rw (le-ltb (length sheet) (65 * (length table / 8)) (omega arith))
+
+pub printing-rows : (table sheet : List ℕ) (rows : ℕ) → 8 * rows ≡ length table → 65 * rows ≤ length sheet
+    → afterPrinting table sheet ≡ over sheet (linesOf rows table)
+printing-rows table sheet rows e h =
+    let whole : length table / 8 ≡ rows = omega arith in
+    sym (printing-room table sheet (omega arith)) ∙ ap (λ (n : ℕ). over sheet (linesOf n table)) whole

@@ -54,11 +54,11 @@ loop-less : tie.Need-loop-less Inv-loop μ-loop
 loop-less c = search needs
 
 loop-again : tie.Need-loop-again Inv-loop μ-loop
-loop-again c = 
+loop-again c =
     let at-print = c .before .before in
     let at-loop = at-print .before .before .before .before in
     let args = at-loop .before .before .before .args in
-    let written = joined-over 8 (fields (now (args .row))) (field-long _) _ _ _ (at-loop .loop .column) (omega arith) (at-loop .loop .inv .1) (at-print .print .ensures) in
+    let written = joined-over 8 (fields (now (args .row))) (field-long (now (args .row))) _ _ _ (at-loop .loop .column) (omega arith) (at-loop .loop .inv .1) (at-print .print .ensures) in
     (search needs, written, ap length written ∙ over-length _ _ (omega (arith, fields-length (now (args .row)) (at-loop .loop .column + 1))))
 
 slice-write-bytes : tie.Need-slice-write-bytes Inv-loop μ-loop
@@ -68,7 +68,7 @@ same-length : tie.Need-same-length Inv-loop μ-loop
 same-length c = search needs
 
 returns : tie.Need-returns Inv-loop μ-loop
-returns c = 
+returns c =
     let all : c .before .loop .column ≡ 8 = omega arith in
     let args = c .before .before .before .before .args in
     line-end (now (args .row)) _ _ (c .before .before .before .before .pre .1) (rw all at (c .before .loop .inv .1))

@@ -1,60 +1,63 @@
+-- `sheet::reader::read` meets its contract: each return is one case of reading. Assumes nothing.
+use mathlib.Core.Path.{_∙_}
+use lib.ListN.{length}
+use denote.Ref.{now}
+use native.Mathlib.Omega.{arith}
+use Rattle.answer.proofs.Lengths.{rows-whole, Whole}
+use Rattle.sheet.proofs.Answers.{reading-length, reading-short, reading-misprint, reading-accepted}
 use borrow.Author.Needs.{needs}
 use Rattle.sheet.proofs.reader.read.Statement.{statement}
 use Rattle.sheet.proofs.reader.read.Tie as tie
-use Rattle.sheet.proofs.reader.read.Reads as reads
-use Rattle.sheet.proofs.reader.read.Lts as lts
-use Rattle.answer.proofs.rows_in.Reads as rows-in-reads
-use Rattle.sheet.proofs.reader.fill.Reads as fill-reads
-use Rattle.sheet.proofs.reader.first_misprint.Reads as first-misprint-reads
-use Rattle.sheet.proofs.refused_at.Reads as refused-at-reads
 
--- src/reader.rt:100:9
 rows-in-requires : tie.Need-rows-in-requires
 rows-in-requires c κs = search needs
 
--- src/reader.rt:102:9
 returns : tie.Need-returns
-returns c = ?
+returns c = reading-length _ _ (c .before .rows-in .ensures) (c .if1 .taken)
 
--- src/reader.rt:108:22
+whole : (c : tie.Else1) → Whole 65 (length (now (c .before .before .before .before .args .sheet))) (c .before .rows-in .result)
+whole c = rows-whole _ _ (c .before .rows-in .ensures) (c .if1 .left)
+
 mul-if2 : tie.Need-mul-if2
-mul-if2 c = ?
+mul-if2 c = omega (arith, whole c)
 
--- src/reader.rt:109:9
 returns-2 : tie.Need-returns-2
-returns-2 c = ?
+returns-2 c = reading-short _ _ (c .before .before .rows-in .ensures) (c .before .if1 .left) (c .if2 .taken)
 
--- src/reader.rt:115:9
 first-misprint-requires : tie.Need-first-misprint-requires
-first-misprint-requires c κs = ?
+first-misprint-requires c κs = omega (arith, whole (c .before))
 
--- src/reader.rt:116:13
 mul-if3 : tie.Need-mul-if3
 mul-if3 c = search needs
 
--- src/reader.rt:117:9
 refused-at-requires : tie.Need-refused-at-requires
-refused-at-requires c κs = ?
+refused-at-requires c κs = omega (arith, whole (c .before .before .before))
 
--- src/reader.rt:117:9
 returns-3 : tie.Need-returns-3
-returns-3 c = ?
+returns-3 c =
+    let at-search = c .before .before in
+    let at-if2 = at-search .before in
+    let at-if1 = at-if2 .before in
+    let case = reading-misprint _ _ (at-if1 .before .rows-in .ensures) (at-if1 .if1 .left) (at-if2 .if2 .left) (at-search .first-misprint .ensures) (c .before .if3 .taken) in
+    (c .refused-at .ensures ∙ case .0, case .1)
 
--- src/reader.rt:119:5
 fill-requires : tie.Need-fill-requires
-fill-requires c κs = ?
+fill-requires c κs = (omega (arith, whole (c .before .before .before .before)), c .before .before .before .if2 .left)
 
--- src/reader.rt:120:19
 cast-t11 : tie.Need-cast-t11
-cast-t11 c = ?
+cast-t11 c = omega (arith, whole (c .before .before .before .before .before .before .before))
 
--- src/reader.rt:96:1
 same-length : tie.Need-same-length
 same-length c = search needs
 
--- src/reader.rt:96:1
 returns-4 : tie.Need-returns-4
-returns-4 c = ?
+returns-4 c =
+    let at-if3 = c .before .before .before .before in
+    let at-search = at-if3 .before in
+    let at-if2 = at-search .before in
+    let at-if1 = at-if2 .before in
+    let case = reading-accepted _ _ (at-if1 .before .rows-in .ensures) (at-if1 .if1 .left) (at-if2 .if2 .left) (at-search .first-misprint .ensures) (at-if3 .if3 .left) in
+    (case .0, c .before .before .fill .ensures ∙ case .1)
 
 pub read-spec : {M : Type 1} → statement M
 read-spec =

@@ -1,90 +1,93 @@
+-- `sheet::writer::print_rows` meets its contract. The loop's invariant: the rows before `row` are printed over the front of the bytes.
+-- Assumes nothing.
+use mathlib.Core.Path.{_≡_, refl, ap, _∙_}
+use Prim.Native.Nat.{ℕ, _+_, _*_, _-_, _≤_, _/_}
+use native.Mathlib.Omega.{arith}
+use lib.ListN.{length}
+use denote.Ref.{now}
+use borrow.Author.Needs.{needs}
+use Rattle.sheet.specs.Line.{joined, line}
+use Rattle.sheet.specs.Sheet.{over, linesOf}
+use Rattle.sheet.proofs.Lists.{over-length, part-lent}
+use Rattle.sheet.proofs.Sheets.{lines-length, lines-more, printing-short, printing-room}
 use Rattle.sheet.proofs.writer.print_rows.Statement.{statement}
 use Rattle.sheet.proofs.writer.print_rows.Tie as tie
-use Rattle.sheet.proofs.writer.print_rows.Reads as reads
-use Rattle.sheet.proofs.writer.print_rows.Lts as lts
-use Rattle.sheet.proofs.line.print_row.Reads as print-row-reads
 
 abbrev Inv-loop : tie.InvT-loop
-Inv-loop table sheet₀ rows row₀ sheet row = ?
+Inv-loop table sheet₀ rows row₀ sheet row = (row ≤ rows) × (sheet ≡ over sheet₀ (linesOf row table)) × (length sheet ≡ length sheet₀)
 
 abbrev μ-loop : tie.MeasureT-loop
-μ-loop table sheet₀ rows row₀ sheet row = ?
+μ-loop table sheet₀ rows row₀ sheet row = rows - row
 
--- src/writer.rt:42:9
 returns : tie.Need-returns Inv-loop μ-loop
-returns c = ?
+returns c = printing-short _ _ (c .if1 .taken)
 
--- src/writer.rt:45:5
 loop-holds : tie.Need-loop-holds Inv-loop μ-loop
-loop-holds c = ?
+unfolding over linesOf joined
+loop-holds c = (search needs, refl, refl)
 
--- src/writer.rt:46:20
 mul-from : tie.Need-mul-from Inv-loop μ-loop
-mul-from c = ?
+mul-from c = search needs
 
--- src/writer.rt:47:18
 mul-to : tie.Need-mul-to Inv-loop μ-loop
-mul-to c = ?
+mul-to c = search needs
 
--- src/writer.rt:48:32
 add-print-row : tie.Need-add-print-row Inv-loop μ-loop
-add-print-row c = ?
+add-print-row c = search needs
 
--- src/writer.rt:48:19
 mul-print-row : tie.Need-mul-print-row Inv-loop μ-loop
-mul-print-row c = ?
+mul-print-row c = search needs
 
--- src/writer.rt:48:19
 sub-print-row : tie.Need-sub-print-row Inv-loop μ-loop
-sub-print-row c = ?
+sub-print-row c = search needs
 
--- src/writer.rt:48:19
 part-print-row-start : tie.Need-part-print-row-start Inv-loop μ-loop
-part-print-row-start c = ?
+part-print-row-start c = search needs
 
--- src/writer.rt:48:19
 part-print-row-end : tie.Need-part-print-row-end Inv-loop μ-loop
-part-print-row-end c = ?
+part-print-row-end c = search needs
 
--- src/writer.rt:48:60
 add-print-row-2 : tie.Need-add-print-row-2 Inv-loop μ-loop
-add-print-row-2 c = ?
+add-print-row-2 c = search needs
 
--- src/writer.rt:48:45
 sub-print-row-2 : tie.Need-sub-print-row-2 Inv-loop μ-loop
-sub-print-row-2 c = ?
+sub-print-row-2 c = search needs
 
--- src/writer.rt:48:45
 part-print-row-start-2 : tie.Need-part-print-row-start-2 Inv-loop μ-loop
-part-print-row-start-2 c = ?
+part-print-row-start-2 c = search needs
 
--- src/writer.rt:48:45
 part-print-row-end-2 : tie.Need-part-print-row-end-2 Inv-loop μ-loop
-part-print-row-end-2 c = ?
+part-print-row-end-2 c = search needs
 
--- src/writer.rt:48:9
 print-row-requires : tie.Need-print-row-requires Inv-loop μ-loop
-print-row-requires c κs = ?
+print-row-requires c κs = search needs
 
--- src/writer.rt:49:9
 add-row : tie.Need-add-row Inv-loop μ-loop
-add-row c = ?
+add-row c = search needs
 
--- src/writer.rt:45:5
 loop-less : tie.Need-loop-less Inv-loop μ-loop
-loop-less c = ?
+loop-less c = search needs
 
--- src/writer.rt:45:5
 loop-again : tie.Need-loop-again Inv-loop μ-loop
-loop-again c = ?
+loop-again c =
+    let at-print = c .before .before in
+    let at-loop = at-print .before .before .before .before in
+    let args = at-loop .before .before .before .before .args in
+    let n = at-loop .loop .row in
+    let printed = at-print .print-row .ensures ∙ ap line (part-lent 8 n (now (args .table))) in
+    let written = lines-more (now (args .table)) (now (args .sheet)) _ _ n (omega arith) (at-loop .loop .inv .1) printed in
+    (search needs, written, ap length written ∙ over-length _ _ (omega (arith, lines-length (n + 1) (now (args .table)))))
 
--- src/writer.rt:37:1
 same-length : tie.Need-same-length Inv-loop μ-loop
-same-length c = ?
+same-length c = search needs
 
--- src/writer.rt:37:1
 returns-2 : tie.Need-returns-2 Inv-loop μ-loop
-returns-2 c = ?
+returns-2 c =
+    let args = c .before .before .before .before .before .args in
+    let all : c .before .loop .row ≡ length (now (args .table)) / 8 = omega arith in
+    c .before .loop .inv .1
+    ∙ ap (λ (n : ℕ). over (now (args .sheet)) (linesOf n (now (args .table)))) all
+    ∙ printing-room (now (args .table)) (now (args .sheet)) (c .before .before .if1 .left)
 
 pub print-rows-spec : {M : Type 1} → statement M
 print-rows-spec =
