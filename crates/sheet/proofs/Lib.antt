@@ -3,3 +3,4 @@ pub mod Fields
 pub mod Lists
 pub mod Sheets
 pub mod Answers
+pub mod RoundTrip

@@ -64,6 +64,12 @@ part-lent size i l =
     let all : size * i + size - size * i ≡ size = omega arith in
     rw all
 
+pub part-append : (size i : ℕ) (l m : List ℕ) → size * i + size ≤ length l → part size i (l ++ m) ≡ part size i l
+unfolding part
+part-append size i l m h =
+    ap (take size) (drop-append-le (size * i) l m (omega arith))
+    ∙ take-append-le size (drop (size * i) l) m (simp length-drop (omega arith))
+
 pub part-at : (size i : ℕ) (l : List ℕ) (j : ℕ) → j < size → getD (part size i l) j 0 ≡ getD l (size * i + j) 0
 unfolding part
 part-at size i l j h = rw (getD-take, getD-drop)
@@ -83,10 +89,7 @@ module _ (size : ℕ) (f : ℕ → List ℕ) (long : (i : ℕ) → length (f i) 
       go : Dec (i < n) → (i < n → part size i (joined n f) ≡ f i) → part size i (joined n f ++ f n) ≡ f i
       go (yes l) earlier =
           let fits : size * suc i ≤ size * n = mul-le-mul-left size l in
-          let ends : size * i + size ≤ length (joined n f) = omega (arith, joined-length n, mul-suc size i) in
-          ap (take size) (drop-append-le (size * i) (joined n f) (f n) (omega arith))
-          ∙ take-append-le size (drop (size * i) (joined n f)) (f n) (simp length-drop (omega arith))
-          ∙ earlier l
+          part-append size i (joined n f) (f n) (omega (arith, joined-length n, mul-suc size i)) ∙ earlier l
       go (no l) earlier =
           let last : i ≡ n = omega arith in
           rw last

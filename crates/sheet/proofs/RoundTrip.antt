@@ -1,0 +1,206 @@
+-- A sheet that is read and written again is the same sheet, and a table that is written and read again is the same table, with lent
+-- storage of any sufficient length, whose rest stays. Assumes nothing.
+use mathlib.Core.Path.{_≡_, refl, sym, ap, ap₂, subst, _∙_}
+use mathlib.Core.Bool.{Bool, true, false, cond, not, false≢true}
+use mathlib.Core.List.{List, [], _∷_, _++_}
+use Prim.Native.Nat.{ℕ, suc, _+_, _*_, _/_, _%_, _^_, _<_, _≤_}
+use native.Mathlib.Omega.{arith}
+use lib.Dec.{eqb, ltb}
+use lib.ListN.{length, getD, take, drop}
+use lib.Seq.{take-all, take-at, take-suc, getD-at}
+use borrow.Author.Tests.{eq-eqb, ne-eqb, le-ltb, ltb-false, eqb-true, eqb-false, not-false}
+use Rattle.answer.specs.Told.{Told, counted}
+use Rattle.answer.specs.Length.{rowsIn}
+use Rattle.sheet.specs.Field.{field, isNumber, value, printed}
+use Rattle.sheet.specs.Line.{joined, part, line}
+use Rattle.sheet.specs.Sheet.{over, fieldAt, misprinted, numbersOf, reading, afterReading, linesOf, tooLarge, writing, afterWriting}
+use Rattle.sheet.specs.declared.field.Field.{Field}
+use Rattle.sheet.specs.declared.field.Field.the-variants.{Blank, Number, Misprint}
+use Rattle.sheet.proofs.Fields.{field-below, field-printed, printed-field}
+use Rattle.sheet.proofs.Lists.{part-length, part-at, part-append, joined-part, joined-same, joined-parts, joined-elements, joined-at}
+use Rattle.sheet.proofs.Sheets.{fields, field-long, fields-length, line-length, numbers-length, lines-length}
+use Rattle.sheet.proofs.Answers.{Readable, Writable, accepted-readable, accepted-writable, readable-accepted, writable-accepted}
+
+-- Eight characters that are a field are its number printed.
+field-of-number : (characters : List ℕ) → length characters ≡ 8 → isNumber (field characters) ≡ true
+    → printed (value (field characters)) ≡ characters
+unfolding isNumber value
+field-of-number characters long number = go (field characters) refl number
+  where
+    go : (f : Field) → field characters ≡ f → isNumber f ≡ true → printed (value f) ≡ characters
+    go Blank e n = absurd (false≢true n)
+    go (Number v) e n = sym (printed-field characters v long e)
+    go Misprint e n = absurd (false≢true n)
+
+-- From a sheet to its numbers and back.
+module _ (sheet : List ℕ) (lent lines : ℕ) (readable : Readable sheet lent lines) where
+  -- A field that is read is a number.
+  read-field : (i j : ℕ) → i < lines → j < 8 → isNumber (field (fieldAt sheet i j)) ≡ true
+  unfolding misprinted
+  read-field i j hi hj =
+      let row : (9 * i + j) / 9 ≡ i = omega arith in
+      let column : (9 * i + j) % 9 ≡ j = omega arith in
+      let right : misprinted sheet (9 * i + j) ≡ false = readable .right (9 * i + j) (omega arith) in
+      not-false _ (rw (row, column, ne-eqb j 8 (λ e. omega arith)) at right)
+
+  -- A line that is read ends in byte 10.
+  read-end : (i : ℕ) → i < lines → getD (part 65 i sheet) 64 0 ≡ 10
+  unfolding misprinted
+  read-end i hi =
+      let row : (9 * i + 8) / 9 ≡ i = omega arith in
+      let column : (9 * i + 8) % 9 ≡ 8 = omega arith in
+      let right : misprinted sheet (9 * i + 8) ≡ false = readable .right (9 * i + 8) (omega arith) in
+      eqb-true _ 10 (not-false _ (rw (row, column) at right))
+
+  -- The numbers of a line are printed as that line.
+  read-line : (i : ℕ) → i < lines → line (part 8 i (numbersOf (8 * lines) sheet)) ≡ part 65 i sheet
+  unfolding line numbersOf fieldAt
+  read-line i hi =
+      let numbers = numbersOf (8 * lines) sheet in
+      let l = part 65 i sheet in
+      let long : length l ≡ 65 = part-length 65 i sheet (omega (arith, readable .whole)) in
+      let number : (j : ℕ) → j < 8 → getD (part 8 i numbers) j 0 ≡ value (field (part 8 j l)) = λ j hj.
+      let row : (8 * i + j) / 8 ≡ i = omega arith in
+      let column : (8 * i + j) % 8 ≡ j = omega arith in
+      part-at 8 i numbers j hj
+      ∙ joined-at (λ place. value (field (fieldAt sheet (place / 8) (place % 8)))) (8 * lines) (8 * i + j) (omega arith)
+      ∙ rw (row, column) in
+      let again : (j : ℕ) → j < 8 → fields (part 8 i numbers) j ≡ part 8 j l = λ j hj.
+      ap printed (number j hj) ∙ field-of-number (part 8 j l) (part-length 8 j l (omega arith)) (read-field i j hi hj) in
+      ap₂ (λ (front : List ℕ) (end : ℕ). front ++ (end ∷ []))
+      (joined-same (fields (part 8 i numbers)) (λ j. part 8 j l) 8 again ∙ joined-parts 8 8 l)
+      (sym (read-end i hi))
+      ∙ sym (take-suc l 64 0 (omega arith))
+      ∙ take-all 65 l (omega arith)
+
+  read-again : linesOf lines (numbersOf (8 * lines) sheet) ≡ sheet
+  unfolding linesOf
+  read-again =
+      joined-same (λ i. line (part 8 i (numbersOf (8 * lines) sheet))) (λ i. part 65 i sheet) lines read-line
+      ∙ joined-parts 65 lines sheet
+      ∙ take-all (65 * lines) sheet (omega (arith, readable .whole))
+
+  -- What was read can be written.
+  read-writable : (room : ℕ) → length sheet ≤ room → Writable (numbersOf (8 * lines) sheet) room lines
+  unfolding numbersOf tooLarge fieldAt
+  read-writable room h =
+      record {
+        some = readable .some;
+        most = readable .most;
+        whole = sym (numbers-length (8 * lines) sheet);
+        room = omega (arith, readable .whole);
+        right = λ place l.
+            let characters = fieldAt sheet (place / 8) (place % 8) in
+            let long : length characters ≡ 8 =
+            part-length 8 (place % 8) (part 65 (place / 8) sheet)
+            (omega (arith, part-length 65 (place / 8) sheet (omega (arith, readable .whole)))) in
+            let below : value (field characters) < 10 ^ 8 = rw long at (field-below characters) in
+            rw (joined-at (λ place. value (field (fieldAt sheet (place / 8) (place % 8)))) (8 * lines) place l)
+            (le-ltb 99999999 (value (field characters)) (omega arith));
+      }
+
+-- From a table to its lines and back.
+module _ (table : List ℕ) (lent rows : ℕ) (writable : Writable table lent rows) where
+  -- A field of what is written is a number printed.
+  written-line : (i : ℕ) → i < rows → part 65 i (linesOf rows table) ≡ line (part 8 i table)
+  unfolding linesOf
+  written-line i hi = joined-part 65 (λ i. line (part 8 i table)) (λ i. line-length (part 8 i table)) rows i hi
+
+  written-field : (i j : ℕ) → i < rows → j < 8 → field (fieldAt (linesOf rows table) i j) ≡ Number (getD table (8 * i + j) 0)
+  unfolding fieldAt line tooLarge
+  written-field i j hi hj =
+      let row = part 8 i table in
+      let n = getD table (8 * i + j) 0 in
+      let fits : n ≤ 99999999 = ltb-false 99999999 n (writable .right (8 * i + j) (omega arith)) in
+      ap (λ (l : List ℕ). field (part 8 j l)) (written-line i hi)
+      ∙ ap field (part-append 8 j (joined 8 (fields row)) (10 ∷ []) (omega (arith, fields-length row 8)))
+      ∙ ap field (joined-part 8 (fields row) (field-long row) 8 j hj)
+      ∙ ap (λ (k : ℕ). field (printed k)) (part-at 8 i table j hj)
+      ∙ field-printed n (omega arith)
+
+  written-end : (i : ℕ) → i < rows → getD (part 65 i (linesOf rows table)) 64 0 ≡ 10
+  unfolding line
+  written-end i hi =
+      let row = part 8 i table in
+      ap (λ (l : List ℕ). getD l 64 0) (written-line i hi) ∙ getD-at (joined 8 (fields row)) 10 [] 0 64 (fields-length row 8)
+
+  written-again : numbersOf (8 * rows) (linesOf rows table) ≡ table
+  unfolding numbersOf value
+  written-again =
+      joined-same
+      (λ place. value (field (fieldAt (linesOf rows table) (place / 8) (place % 8))) ∷ [])
+      (λ place. getD table place 0 ∷ [])
+      (8 * rows)
+      (λ place h.
+      let same : 8 * (place / 8) + place % 8 ≡ place = omega arith in
+      ap (λ (f : Field). value f ∷ []) (written-field (place / 8) (place % 8) (omega arith) (omega arith))
+      ∙ ap (λ (k : ℕ). getD table k 0 ∷ []) same)
+      ∙ joined-elements (8 * rows) table (omega (arith, writable .whole))
+      ∙ take-all (8 * rows) table (omega (arith, writable .whole))
+
+  -- What was written can be read.
+  written-right : (place : ℕ) → place < 9 * rows → misprinted (linesOf rows table) place ≡ false
+  unfolding misprinted isNumber
+  written-right place h = go (eqb (place % 9) 8) refl
+    where
+      go : (b : Bool) → eqb (place % 9) 8 ≡ b
+          → cond b (not (eqb (getD (part 65 (place / 9) (linesOf rows table)) 64 0) 10))
+          (not (isNumber (field (fieldAt (linesOf rows table) (place / 9) (place % 9)))))
+          ≡ false
+      go true e = rw (written-end (place / 9) (omega arith))
+      go false e =
+          let column : place % 9 ≡ 8 → ⊥ = eqb-false (place % 9) 8 e in
+          rw (written-field (place / 9) (place % 9) (omega arith) (omega arith))
+
+  written-readable : (room : ℕ) → length table ≤ room → Readable (linesOf rows table) room rows
+  written-readable room h =
+      record {
+        some = writable .some;
+        most = writable .most;
+        whole = sym (lines-length rows table);
+        room = omega (arith, writable .whole);
+        right = written-right;
+      }
+
+-- The rows that reading a sheet into a table wrote, and the bytes that writing a table into a sheet wrote: as many as were counted.
+abbrev pub rowsRead : List ℕ → List ℕ → List ℕ
+rowsRead sheet table = take (8 * reading sheet (length table) .count) (afterReading sheet table)
+
+abbrev pub bytesWritten : List ℕ → List ℕ → List ℕ
+bytesWritten table sheet = take (writing table (length sheet) .count) (afterWriting table sheet)
+
+-- A sheet that is read and written again is the same sheet, byte for byte.
+pub read-then-write : (sheet table bytes : List ℕ) → reading sheet (length table) .number ≡ 0 → length sheet ≤ length bytes
+    → (writing (rowsRead sheet table) (length bytes) ≡ counted (length sheet))
+    × (afterWriting (rowsRead sheet table) bytes ≡ sheet ++ drop (length sheet) bytes)
+unfolding over
+read-then-write sheet table bytes accepted room =
+    let lines = rowsIn 65 (length sheet) in
+    let readable : Readable sheet (length table) lines = accepted-readable sheet (length table) accepted in
+    let numbers = numbersOf (8 * lines) sheet in
+    let read = readable-accepted sheet table lines readable in
+    let rows : rowsRead sheet table ≡ numbers =
+    ap₂ (λ (n : ℕ) (l : List ℕ). take (8 * n) l) (ap (λ (a : Told). a .count) (sym (read .0))) (sym (read .1))
+    ∙ take-at numbers (drop (length numbers) table) (8 * lines) (numbers-length (8 * lines) sheet) in
+    let written = writable-accepted numbers bytes lines (read-writable sheet (length table) lines readable (length bytes) room) in
+    let same : linesOf lines numbers ≡ sheet = read-again sheet (length table) lines readable in
+    rw rows
+    (sym (written .0) ∙ ap counted (readable .whole), sym (written .1) ∙ ap (λ (l : List ℕ). l ++ drop (length l) bytes) same)
+
+-- A table that is written and read again is the same table, number for number.
+pub write-then-read : (table sheet numbers : List ℕ) → writing table (length sheet) .number ≡ 0 → length table ≤ length numbers
+    → (reading (bytesWritten table sheet) (length numbers) ≡ counted (length table / 8))
+    × (afterReading (bytesWritten table sheet) numbers ≡ table ++ drop (length table) numbers)
+unfolding over
+write-then-read table sheet numbers accepted room =
+    let rows = rowsIn 8 (length table) in
+    let writable : Writable table (length sheet) rows = accepted-writable table (length sheet) accepted in
+    let bytes = linesOf rows table in
+    let written = writable-accepted table sheet rows writable in
+    let lines : bytesWritten table sheet ≡ bytes =
+    ap₂ (λ (n : ℕ) (l : List ℕ). take n l) (ap (λ (a : Told). a .count) (sym (written .0))) (sym (written .1))
+    ∙ take-at bytes (drop (length bytes) sheet) (65 * rows) (lines-length rows table) in
+    let read = readable-accepted bytes numbers rows (written-readable table (length sheet) rows writable (length numbers) room) in
+    let same : numbersOf (8 * rows) bytes ≡ table = written-again table (length sheet) rows writable in
+    let whole : rows ≡ length table / 8 = omega (arith, writable .whole) in
+    rw lines (sym (read .0) ∙ ap counted whole, sym (read .1) ∙ ap (λ (l : List ℕ). l ++ drop (length l) numbers) same)
