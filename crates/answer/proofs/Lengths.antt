@@ -26,9 +26,10 @@ rows-whole unit n e some = subst⁻¹ (Whole unit n) e (go (eqb (n % unit) 0) re
     go false e false f h = absurd (omega arith)
 
 -- As many whole units as are allowed are that many rows.
-pub rows-of : (unit rows : ℕ) → 0 < unit → rows ≤ mostRows → rowsIn unit (unit * rows) ≡ rows
+pub rows-counted : (unit : ℕ) {n rows : ℕ} → unit * rows ≡ n → 0 < unit → rows ≤ mostRows → rows ≡ rowsIn unit n
 unfolding rowsIn
-rows-of unit rows some most = simp (mul-mod-right, mul-div-cancel-left rows some, le-leb rows mostRows most)
+rows-counted unit {n} {rows} e some most =
+    rw (← e, mul-mod-right, mul-div-cancel-left rows some, le-leb rows mostRows most)
 
 -- A unit of nothing makes no row.
 pub rows-zero : (n : ℕ) → rowsIn 0 n ≡ 0

@@ -12,24 +12,22 @@ use Rattle.answer.specs.First.{first}
 use Rattle.answer.specs.Length.{rowsIn, mostRows}
 use Rattle.answer.proofs.Refusals.{passed}
 use Rattle.answer.proofs.Places.{first-none, before-first}
-use Rattle.answer.proofs.Lengths.{rows-whole, rows-of}
+use Rattle.answer.proofs.Lengths.{rows-whole, rows-counted}
 use Rattle.sheet.specs.Sheet.{refusalAt, over, misprinted, numbersOf, reading, afterReading, tooLarge, linesOf, writing, afterWriting}
 
--- Which sheets are read: whole lines, not too many, with room for their numbers, and nothing misprinted.
-pub record Readable (sheet : List ℕ) (lent lines : ℕ) : Type 0 where
+-- A sheet of so many lines that can be read: whole lines, not too many, nothing misprinted.
+pub record Readable (sheet : List ℕ) (lines : ℕ) : Type 0 where
   pub some : 0 < lines
   pub most : lines ≤ mostRows
   pub whole : 65 * lines ≡ length sheet
-  pub room : 8 * lines ≤ lent
   pub right : (place : ℕ) → place < 9 * lines → misprinted sheet place ≡ false
 
--- Which tables are written: whole rows, not too many, no number too large, with room for their lines.
-pub record Writable (table : List ℕ) (lent rows : ℕ) : Type 0 where
+-- A table of so many rows that can be written: whole rows, not too many, no number too large.
+pub record Writable (table : List ℕ) (rows : ℕ) : Type 0 where
   pub some : 0 < rows
   pub most : rows ≤ mostRows
   pub whole : 8 * rows ≡ length table
-  pub room : 65 * rows ≤ lent
-  pub right : (place : ℕ) → place < 8 * rows → tooLarge table place ≡ false
+  pub right : (place : ℕ) → place < length table → tooLarge table place ≡ false
 
 module _ (sheet table : List ℕ) {lines : ℕ} (so-many : lines ≡ rowsIn 65 (length sheet)) where
   abbrev Read : Told → List ℕ → Type 0
@@ -95,8 +93,9 @@ module _ (table sheet : List ℕ) {rows : ℕ} (so-many : rows ≡ rowsIn 8 (len
           rw (← so-many, ← found, ne-eqb rows 0 some, le-ltb at (length table) fit, le-ltb (length sheet) (65 * rows) h) in
           (accepted, rw (← accepted, ← so-many))
 
--- A sheet is accepted just where it can be read, and a table just where it can be written.
-pub accepted-readable : (sheet : List ℕ) (lent : ℕ) → reading sheet lent .number ≡ 0 → Readable sheet lent (rowsIn 65 (length sheet))
+-- A sheet is accepted just where it can be read into what is lent, and a table just where it can be written into what is lent.
+pub accepted-readable : (sheet : List ℕ) (lent : ℕ) → reading sheet lent .number ≡ 0
+    → Readable sheet (rowsIn 65 (length sheet)) × (8 * rowsIn 65 (length sheet) ≤ lent)
 unfolding reading refusalAt
 accepted-readable sheet lent z =
     let lines = rowsIn 65 (length sheet) in
@@ -106,15 +105,16 @@ accepted-readable sheet lent z =
     let last = passed (ltb at (9 * lines)) (refusalAt misprint 9 at) _ refl (third .1) in
     let lengths = rows-whole 65 (length sheet) {rows = lines} refl (eqb-false lines 0 (second .0)) in
     let searched : 9 * lines ≤ at = ltb-false at (9 * lines) (last .0) in
-    record {
+    let readable : Readable sheet lines = record {
       some = lengths .some;
       most = lengths .most;
       whole = lengths .whole;
-      room = ltb-false lent (8 * lines) (third .0);
       right = λ place h. before-first (misprinted sheet) (9 * lines) place (omega arith);
-    }
+    } in
+    (readable, ltb-false lent (8 * lines) (third .0))
 
-pub accepted-writable : (table : List ℕ) (lent : ℕ) → writing table lent .number ≡ 0 → Writable table lent (rowsIn 8 (length table))
+pub accepted-writable : (table : List ℕ) (lent : ℕ) → writing table lent .number ≡ 0
+    → Writable table (rowsIn 8 (length table)) × (65 * rowsIn 8 (length table) ≤ lent)
 unfolding writing refusalAt
 accepted-writable table lent z =
     let rows = rowsIn 8 (length table) in
@@ -124,25 +124,33 @@ accepted-writable table lent z =
     let last = passed (ltb lent (65 * rows)) (refusal lent-space-short 0 0) _ refl (third .1) in
     let lengths = rows-whole 8 (length table) {rows = rows} refl (eqb-false rows 0 (second .0)) in
     let searched : length table ≤ at = ltb-false at (length table) (third .0) in
-    record {
+    let writable : Writable table rows = record {
       some = lengths .some;
       most = lengths .most;
       whole = lengths .whole;
-      room = ltb-false lent (65 * rows) (last .0);
-      right = λ place h. before-first (tooLarge table) (length table) place (omega (arith, lengths .whole));
-    }
+      right = λ place h. before-first (tooLarge table) (length table) place (omega arith);
+    } in
+    (writable, ltb-false lent (65 * rows) (last .0))
 
-pub readable-accepted : (sheet table : List ℕ) (lines : ℕ) → Readable sheet (length table) lines
-    → (counted lines ≡ reading sheet (length table)) × (over table (numbersOf (8 * lines) sheet) ≡ afterReading sheet table)
-readable-accepted sheet table lines r =
-    let so-many : lines ≡ rowsIn 65 (length sheet) = sym (ap (rowsIn 65) (sym (r .whole)) ∙ rows-of 65 lines (lit< tt) (r .most)) in
-    let found : 9 * lines ≡ first (misprinted sheet) (9 * lines) = sym (first-none (misprinted sheet) (9 * lines) (r .right)) in
-    reading-accepted sheet table so-many (λ z. omega (arith, r .some)) (r .room) found (omega arith)
+module _ (sheet table : List ℕ) (lines : ℕ) (readable : Readable sheet lines) where
+  pub readable-accepted : 8 * lines ≤ length table
+      → (counted lines ≡ reading sheet (length table)) × (over table (numbersOf (8 * lines) sheet) ≡ afterReading sheet table)
+  readable-accepted room =
+      let so-many : lines ≡ rowsIn 65 (length sheet) = rows-counted 65 (readable .whole) (lit< tt) (readable .most) in
+      let found : 9 * lines ≡ first (misprinted sheet) (9 * lines) = sym (first-none (misprinted sheet) (9 * lines) (readable .right)) in
+      reading-accepted sheet table so-many (λ z. omega (arith, readable .some)) room found (omega arith)
 
-pub writable-accepted : (table sheet : List ℕ) (rows : ℕ) → Writable table (length sheet) rows
-    → (counted (65 * rows) ≡ writing table (length sheet)) × (over sheet (linesOf rows table) ≡ afterWriting table sheet)
-writable-accepted table sheet rows r =
-    let so-many : rows ≡ rowsIn 8 (length table) = sym (ap (rowsIn 8) (sym (r .whole)) ∙ rows-of 8 rows (lit< tt) (r .most)) in
-    let found : length table ≡ first (tooLarge table) (length table) =
-    sym (first-none (tooLarge table) (length table) (λ place h. r .right place (omega (arith, r .whole)))) in
-    writing-accepted table sheet so-many (λ z. omega (arith, r .some)) found (omega arith) (r .room)
+module _ (table sheet : List ℕ) (rows : ℕ) (writable : Writable table rows) where
+  so-many-rows : rows ≡ rowsIn 8 (length table)
+  so-many-rows = rows-counted 8 (writable .whole) (lit< tt) (writable .most)
+
+  none-large : length table ≡ first (tooLarge table) (length table)
+  none-large = sym (first-none (tooLarge table) (length table) (writable .right))
+
+  pub writable-accepted : 65 * rows ≤ length sheet
+      → (counted (65 * rows) ≡ writing table (length sheet)) × (over sheet (linesOf rows table) ≡ afterWriting table sheet)
+  writable-accepted room = writing-accepted table sheet so-many-rows (λ z. omega (arith, writable .some)) none-large (omega arith) room
+
+  pub writable-short : length sheet < 65 * rows
+      → (refusal lent-space-short 0 0 ≡ writing table (length sheet)) × (sheet ≡ afterWriting table sheet)
+  writable-short short = writing-short table sheet so-many-rows (λ z. omega (arith, writable .some)) none-large (omega arith) short

@@ -9,7 +9,7 @@ use lib.Dec.{eqb, ltb}
 use lib.ListN.{length, getD, take, drop}
 use lib.Seq.{take-all, take-at, take-suc, getD-at}
 use borrow.Author.Tests.{eq-eqb, ne-eqb, le-ltb, ltb-false, eqb-true, eqb-false, not-false}
-use Rattle.answer.specs.Told.{Told, counted}
+use Rattle.answer.specs.Told.{Told, counted, refusal, lent-space-short}
 use Rattle.answer.specs.Length.{rowsIn}
 use Rattle.sheet.specs.Field.{field, isNumber, value, printed}
 use Rattle.sheet.specs.Line.{joined, part, line}
@@ -19,7 +19,7 @@ use Rattle.sheet.specs.declared.field.Field.the-variants.{Blank, Number,
 use Rattle.sheet.proofs.Fields.{field-below, field-printed, printed-field}
 use Rattle.sheet.proofs.Lists.{part-length, part-at, part-append, joined-part, joined-same, joined-parts, joined-elements, joined-at}
 use Rattle.sheet.proofs.Sheets.{fields, field-long, fields-length, line-length, numbers-length, lines-length}
-use Rattle.sheet.proofs.Answers.{Readable, Writable, accepted-readable, accepted-writable, readable-accepted, writable-accepted}
+use Rattle.sheet.proofs.Answers.{Readable, Writable, accepted-readable, accepted-writable, readable-accepted, writable-accepted, writable-short}
 
 -- Eight characters that are a field are its number printed.
 field-of-number : (characters : List ℕ) → length characters ≡ 8 → isNumber (field characters) ≡ true
@@ -33,7 +33,7 @@ field-of-number characters long number = go (field characters) refl number
     go Misprint e n = absurd (false≢true n)
 
 -- From a sheet to its numbers and back.
-module _ (sheet : List ℕ) (lent lines : ℕ) (readable : Readable sheet lent lines) where
+module _ (sheet : List ℕ) (lines : ℕ) (readable : Readable sheet lines) where
   -- A field that is read is a number.
   read-field : (i j : ℕ) → i < lines → j < 8 → isNumber (field (fieldAt sheet i j)) ≡ true
   unfolding misprinted
@@ -81,15 +81,15 @@ module _ (sheet : List ℕ) (lent lines : ℕ) (readable : Readable sheet lent l
       ∙ take-all (65 * lines) sheet (omega (arith, readable .whole))
 
   -- What was read can be written.
-  read-writable : (room : ℕ) → length sheet ≤ room → Writable (numbersOf (8 * lines) sheet) room lines
+  read-writable : Writable (numbersOf (8 * lines) sheet) lines
   unfolding numbersOf tooLarge fieldAt
-  read-writable room h =
+  read-writable =
       record {
         some = readable .some;
         most = readable .most;
         whole = sym (numbers-length (8 * lines) sheet);
-        room = omega (arith, readable .whole);
-        right = λ place l.
+        right = λ place h.
+            let l : place < 8 * lines = omega (arith, numbers-length (8 * lines) sheet) in
             let characters = fieldAt sheet (place / 8) (place % 8) in
             let long : length characters ≡ 8 =
             part-length 8 (place % 8) (part 65 (place / 8) sheet)
@@ -100,7 +100,7 @@ module _ (sheet : List ℕ) (lent lines : ℕ) (readable : Readable sheet lent l
       }
 
 -- From a table to its lines and back.
-module _ (table : List ℕ) (lent rows : ℕ) (writable : Writable table lent rows) where
+module _ (table : List ℕ) (rows : ℕ) (writable : Writable table rows) where
   -- A field of what is written is a number printed.
   written-line : (i : ℕ) → i < rows → part 65 i (linesOf rows table) ≡ line (part 8 i table)
   unfolding linesOf
@@ -111,7 +111,7 @@ module _ (table : List ℕ) (lent rows : ℕ) (writable : Writable table lent ro
   written-field i j hi hj =
       let row = part 8 i table in
       let n = getD table (8 * i + j) 0 in
-      let fits : n ≤ 99999999 = ltb-false 99999999 n (writable .right (8 * i + j) (omega arith)) in
+      let fits : n ≤ 99999999 = ltb-false 99999999 n (writable .right (8 * i + j) (omega (arith, writable .whole))) in
       ap (λ (l : List ℕ). field (part 8 j l)) (written-line i hi)
       ∙ ap field (part-append 8 j (joined 8 (fields row)) (10 ∷ []) (omega (arith, fields-length row 8)))
       ∙ ap field (joined-part 8 (fields row) (field-long row) 8 j hj)
@@ -152,13 +152,12 @@ module _ (table : List ℕ) (lent rows : ℕ) (writable : Writable table lent ro
           let column : place % 9 ≡ 8 → ⊥ = eqb-false (place % 9) 8 e in
           rw (written-field (place / 9) (place % 9) (omega arith) (omega arith))
 
-  written-readable : (room : ℕ) → length table ≤ room → Readable (linesOf rows table) room rows
-  written-readable room h =
+  written-readable : Readable (linesOf rows table) rows
+  written-readable =
       record {
         some = writable .some;
         most = writable .most;
         whole = sym (lines-length rows table);
-        room = omega (arith, writable .whole);
         right = written-right;
       }
 
@@ -169,23 +168,56 @@ rowsRead sheet table = take (8 * reading sheet (length table) .count) (afterRead
 abbrev pub bytesWritten : List ℕ → List ℕ → List ℕ
 bytesWritten table sheet = take (writing table (length sheet) .count) (afterWriting table sheet)
 
--- A sheet that is read and written again is the same sheet, byte for byte.
-pub read-then-write : (sheet table bytes : List ℕ) → reading sheet (length table) .number ≡ 0 → length sheet ≤ length bytes
-    → (writing (rowsRead sheet table) (length bytes) ≡ counted (length sheet))
-    × (afterWriting (rowsRead sheet table) bytes ≡ sheet ++ drop (length sheet) bytes)
+rows-read : (sheet table : List ℕ) → reading sheet (length table) .number ≡ 0
+    → rowsRead sheet table ≡ numbersOf (8 * rowsIn 65 (length sheet)) sheet
 unfolding over
-read-then-write sheet table bytes accepted room =
+rows-read sheet table accepted =
     let lines = rowsIn 65 (length sheet) in
-    let readable : Readable sheet (length table) lines = accepted-readable sheet (length table) accepted in
+    let readable = accepted-readable sheet (length table) accepted in
+    let read = readable-accepted sheet table lines (readable .0) (readable .1) in
     let numbers = numbersOf (8 * lines) sheet in
-    let read = readable-accepted sheet table lines readable in
-    let rows : rowsRead sheet table ≡ numbers =
-    ap₂ (λ (n : ℕ) (l : List ℕ). take (8 * n) l) (ap (λ (a : Told). a .count) (sym (read .0))) (sym (read .1))
-    ∙ take-at numbers (drop (length numbers) table) (8 * lines) (numbers-length (8 * lines) sheet) in
-    let written = writable-accepted numbers bytes lines (read-writable sheet (length table) lines readable (length bytes) room) in
-    let same : linesOf lines numbers ≡ sheet = read-again sheet (length table) lines readable in
-    rw rows
-    (sym (written .0) ∙ ap counted (readable .whole), sym (written .1) ∙ ap (λ (l : List ℕ). l ++ drop (length l) bytes) same)
+    ap₂ (λ (a : Told) (l : List ℕ). take (8 * a .count) l) (sym (read .0)) (sym (read .1))
+    ∙ take-at numbers (drop (length numbers) table) (8 * lines) (numbers-length (8 * lines) sheet)
+
+bytes-written : (table sheet : List ℕ) → writing table (length sheet) .number ≡ 0
+    → bytesWritten table sheet ≡ linesOf (rowsIn 8 (length table)) table
+unfolding over
+bytes-written table sheet accepted =
+    let rows = rowsIn 8 (length table) in
+    let writable = accepted-writable table (length sheet) accepted in
+    let written = writable-accepted table sheet rows (writable .0) (writable .1) in
+    let lines = linesOf rows table in
+    ap₂ (λ (a : Told) (l : List ℕ). take (a .count) l) (sym (written .0)) (sym (written .1))
+    ∙ take-at lines (drop (length lines) sheet) (65 * rows) (lines-length rows table)
+
+-- A sheet that is read and written again is the same sheet, byte for byte. Where too little is lent for that, it is said, and no
+-- byte changes.
+module _ (sheet table bytes : List ℕ) (accepted : reading sheet (length table) .number ≡ 0) where
+  pub read-then-write : length sheet ≤ length bytes
+      → (writing (rowsRead sheet table) (length bytes) ≡ counted (length sheet))
+      × (afterWriting (rowsRead sheet table) bytes ≡ sheet ++ drop (length sheet) bytes)
+  unfolding over
+  read-then-write room =
+      let lines = rowsIn 65 (length sheet) in
+      let readable = accepted-readable sheet (length table) accepted .0 in
+      let written =
+      writable-accepted (numbersOf (8 * lines) sheet) bytes lines (read-writable sheet lines readable)
+      (omega (arith, readable .whole)) in
+      rw (rows-read sheet table accepted) (
+        sym (written .0) ∙ ap counted (readable .whole),
+        sym (written .1) ∙ ap (λ (l : List ℕ). l ++ drop (length l) bytes) (read-again sheet lines readable),
+      )
+
+  pub read-then-short : length bytes < length sheet
+      → (writing (rowsRead sheet table) (length bytes) ≡ refusal lent-space-short 0 0)
+      × (afterWriting (rowsRead sheet table) bytes ≡ bytes)
+  read-then-short short =
+      let lines = rowsIn 65 (length sheet) in
+      let readable = accepted-readable sheet (length table) accepted .0 in
+      let refused =
+      writable-short (numbersOf (8 * lines) sheet) bytes lines (read-writable sheet lines readable)
+      (omega (arith, readable .whole)) in
+      rw (rows-read sheet table accepted) (sym (refused .0), sym (refused .1))
 
 -- A table that is written and read again is the same table, number for number.
 pub write-then-read : (table sheet numbers : List ℕ) → writing table (length sheet) .number ≡ 0 → length table ≤ length numbers
@@ -194,13 +226,12 @@ pub write-then-read : (table sheet numbers : List ℕ) → writing table (length
 unfolding over
 write-then-read table sheet numbers accepted room =
     let rows = rowsIn 8 (length table) in
-    let writable : Writable table (length sheet) rows = accepted-writable table (length sheet) accepted in
-    let bytes = linesOf rows table in
-    let written = writable-accepted table sheet rows writable in
-    let lines : bytesWritten table sheet ≡ bytes =
-    ap₂ (λ (n : ℕ) (l : List ℕ). take n l) (ap (λ (a : Told). a .count) (sym (written .0))) (sym (written .1))
-    ∙ take-at bytes (drop (length bytes) sheet) (65 * rows) (lines-length rows table) in
-    let read = readable-accepted bytes numbers rows (written-readable table (length sheet) rows writable (length numbers) room) in
-    let same : numbersOf (8 * rows) bytes ≡ table = written-again table (length sheet) rows writable in
+    let writable = accepted-writable table (length sheet) accepted .0 in
+    let read =
+    readable-accepted (linesOf rows table) numbers rows (written-readable table rows writable)
+    (omega (arith, writable .whole)) in
     let whole : rows ≡ length table / 8 = omega (arith, writable .whole) in
-    rw lines (sym (read .0) ∙ ap counted whole, sym (read .1) ∙ ap (λ (l : List ℕ). l ++ drop (length l) numbers) same)
+    rw (bytes-written table sheet accepted) (
+      sym (read .0) ∙ ap counted whole,
+      sym (read .1) ∙ ap (λ (l : List ℕ). l ++ drop (length l) numbers) (written-again table rows writable),
+    )
