@@ -113,6 +113,22 @@ accepted-readable sheet lent z =
     } in
     (readable, ltb-false lent (8 * lines) (third .0))
 
+module _ (sheet table : List ℕ) (lines : ℕ) (readable : Readable sheet lines) where
+  pub readable-accepted : 8 * lines ≤ length table
+      → (counted lines ≡ reading sheet (length table)) × (over table (numbersOf (8 * lines) sheet) ≡ afterReading sheet table)
+  readable-accepted room =
+      let so-many : lines ≡ rowsIn 65 (length sheet) = rows-counted 65 (readable .whole) (lit< tt) (readable .most) in
+      let found : 9 * lines ≡ first (misprinted sheet) (9 * lines) = sym (first-none (misprinted sheet) (9 * lines) (readable .right)) in
+      reading-accepted sheet table so-many (λ z. omega (arith, readable .some)) room found (omega arith)
+
+-- What an accepted sheet's count says.
+pub accepted-count : (sheet table : List ℕ) → reading sheet (length table) .number ≡ 0
+    → Readable sheet (reading sheet (length table) .count) × (8 * reading sheet (length table) .count ≤ length table)
+accepted-count sheet table z =
+    let readable = accepted-readable sheet (length table) z in
+    let answer = readable-accepted sheet table (rowsIn 65 (length sheet)) (readable .0) (readable .1) .0 in
+    rw (← answer) readable
+
 pub accepted-writable : (table : List ℕ) (lent : ℕ) → writing table lent .number ≡ 0
     → Writable table (rowsIn 8 (length table)) × (65 * rowsIn 8 (length table) ≤ lent)
 unfolding writing refusalAt
@@ -131,14 +147,6 @@ accepted-writable table lent z =
       right = λ place h. before-first (tooLarge table) (length table) place (omega arith);
     } in
     (writable, ltb-false lent (65 * rows) (last .0))
-
-module _ (sheet table : List ℕ) (lines : ℕ) (readable : Readable sheet lines) where
-  pub readable-accepted : 8 * lines ≤ length table
-      → (counted lines ≡ reading sheet (length table)) × (over table (numbersOf (8 * lines) sheet) ≡ afterReading sheet table)
-  readable-accepted room =
-      let so-many : lines ≡ rowsIn 65 (length sheet) = rows-counted 65 (readable .whole) (lit< tt) (readable .most) in
-      let found : 9 * lines ≡ first (misprinted sheet) (9 * lines) = sym (first-none (misprinted sheet) (9 * lines) (readable .right)) in
-      reading-accepted sheet table so-many (λ z. omega (arith, readable .some)) room found (omega arith)
 
 module _ (table sheet : List ℕ) (rows : ℕ) (writable : Writable table rows) where
   so-many-rows : rows ≡ rowsIn 8 (length table)
