@@ -10,7 +10,7 @@ use borrow.Author.Tests.{eq-eqb, ne-eqb, lt-ltb, le-ltb, eqb-false, ltb-false}
 use Rattle.answer.specs.Told.{Told, counted, refusal, accepts, sheet-length, misprint, out-of-range, lent-space-short}
 use Rattle.answer.specs.First.{first}
 use Rattle.answer.specs.Length.{rowsIn, mostRows}
-use Rattle.answer.proofs.Refusals.{passed}
+use Rattle.answer.proofs.Refusals.{passed, kept}
 use Rattle.answer.proofs.Places.{first-none, before-first}
 use Rattle.answer.proofs.Lengths.{rows-whole, rows-counted}
 use Rattle.sheet.specs.Sheet.{refusalAt, over, misprinted, numbersOf, reading, afterReading, tooLarge, linesOf, writing, afterWriting}
@@ -36,7 +36,7 @@ module _ (sheet table : List ℕ) {lines : ℕ} (so-many : lines ≡ rowsIn 65 (
   -- A refusal leaves the table as it was.
   reading-refused : {answer : Told} → answer ≡ reading sheet (length table) → accepts answer ≡ false → Read answer table
   unfolding afterReading
-  reading-refused e f = (e, rw (← e, f))
+  reading-refused e f = (e, kept (reading sheet (length table)) _ table e f)
 
   pub reading-length : lines ≡ 0 → Read (refusal sheet-length 0 0) table
   unfolding reading
@@ -68,7 +68,7 @@ module _ (table sheet : List ℕ) {rows : ℕ} (so-many : rows ≡ rowsIn 8 (len
   -- A refusal leaves the bytes as they were.
   writing-refused : {answer : Told} → answer ≡ writing table (length sheet) → accepts answer ≡ false → Written answer sheet
   unfolding afterWriting
-  writing-refused e f = (e, rw (← e, f))
+  writing-refused e f = (e, kept (writing table (length sheet)) _ sheet e f)
 
   pub writing-length : rows ≡ 0 → Written (refusal sheet-length 0 0) sheet
   unfolding writing

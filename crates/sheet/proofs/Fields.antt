@@ -11,7 +11,7 @@ use lib.Dec.{eqb, leb, ltb, lit<}
 use lib.ListN.{length, getD, take, length-take}
 use lib.Seq.{take-suc, take-all}
 use borrow.Author.Tests.{eq-eqb, ne-eqb, leb-true, eqb-true, eqb-false, lt-ltb, le-ltb, ltb-true, ltb-false, le-leb}
-use Rattle.sheet.specs.Field.{after, digitAfter, field, value, place, printed}
+use Rattle.sheet.specs.Field.{after, digitAfter, field, value, digitOrSpace, printed}
 use Rattle.sheet.specs.declared.field.Field.{Field}
 use Rattle.sheet.specs.declared.field.Field.the-variants.{Blank, Number, Misprint}
 
@@ -136,9 +136,9 @@ padded-some : (k m : ℕ) → 0 < m → padded (suc k) m ≡ padded k (m / 10) +
 unfolding padded digitOr
 padded-some k m h = rw (ne-eqb m 0 (omega arith))
 
-place-digit : (weight n : ℕ) → 0 < weight → place weight n ≡ digitOr (n / weight)
-unfolding place digitOr
-place-digit weight n some = go (ltb n weight) refl
+space-digit : (weight n : ℕ) → 0 < weight → digitOrSpace weight n ≡ digitOr (n / weight)
+unfolding digitOrSpace digitOr
+space-digit weight n some = go (ltb n weight) refl
   where
     go : (b : Bool) → ltb n weight ≡ b
         → cond b 32 (48 + n / weight % 10) ≡ cond (eqb (n / weight) 0) 32 (48 + n / weight % 10)
@@ -153,13 +153,13 @@ printed-padded : (n : ℕ) → printed n ≡ padded 7 (n / 10) ++ ((48 + n % 10)
 unfolding printed padded
 printed-padded n =
     simp (
-      place-digit 10000000 n (lit< tt),
-      place-digit 1000000 n (lit< tt),
-      place-digit 100000 n (lit< tt),
-      place-digit 10000 n (lit< tt),
-      place-digit 1000 n (lit< tt),
-      place-digit 100 n (lit< tt),
-      place-digit 10 n (lit< tt),
+      space-digit 10000000 n (lit< tt),
+      space-digit 1000000 n (lit< tt),
+      space-digit 100000 n (lit< tt),
+      space-digit 10000 n (lit< tt),
+      space-digit 1000 n (lit< tt),
+      space-digit 100 n (lit< tt),
+      space-digit 10 n (lit< tt),
       div-div-eq-div-mul,
     )
 

@@ -37,11 +37,11 @@ value (Number n) = n
 value Misprint = 0
 
 -- The character of a number's digit that counts `weight` times, 10 or more: a space to the left of the number.
-unfoldable pub place : ℕ → ℕ → ℕ
-place weight n = cond (ltb n weight) 32 (48 + n / weight % 10)
+unfoldable pub digitOrSpace : ℕ → ℕ → ℕ
+digitOrSpace weight n = cond (ltb n weight) 32 (48 + n / weight % 10)
 
 -- A number's field: its eight characters.
 unfoldable pub printed : ℕ → List ℕ
 printed n =
-    place 10000000 n ∷ place 1000000 n ∷ place 100000 n ∷ place 10000 n
-    ∷ place 1000 n ∷ place 100 n ∷ place 10 n ∷ (48 + n % 10) ∷ []
+    digitOrSpace 10000000 n ∷ digitOrSpace 1000000 n ∷ digitOrSpace 100000 n ∷ digitOrSpace 10000 n
+    ∷ digitOrSpace 1000 n ∷ digitOrSpace 100 n ∷ digitOrSpace 10 n ∷ (48 + n % 10) ∷ []

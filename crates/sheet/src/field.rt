@@ -2,7 +2,7 @@
 ghost use mathlib.Core.Path.{_≡_};
 ghost use Prim.Native.Nat.{_<_, _≤_};
 ghost use lib.ListN.{length};
-ghost use Rattle.sheet.specs.Field.{value, digitAfter, after, field, place, printed};
+ghost use Rattle.sheet.specs.Field.{value, digitAfter, after, field, digitOrSpace, printed};
 
 // What the characters of a field make so far.
 pub enum Field {
@@ -64,10 +64,10 @@ pub(crate) fn scan(characters: &[u8]) -> Field
     made
 }
 
-// The character of the digit that counts `weight` times.
-fn place(weight: u32, n: u32) -> u8
+// The character of the digit that counts `weight` times: a space to the left of the number.
+fn digit_or_space(weight: u32, n: u32) -> u8
     requires { ⌜ 0 < weight ⌝ }
-    ensures { λ r. ⌜ r ≡ place weight n ⌝ }
+    ensures { λ r. ⌜ r ≡ digitOrSpace weight n ⌝ }
 {
     if n < weight {
         return b' ';
@@ -80,12 +80,12 @@ pub(crate) fn print(n: u32, characters: &mut [u8])
     requires { ⌜ length (now characters) ≡ 8 ⌝ }
     ensures { λ _. ⌜ now (characters .exit) ≡ printed n ⌝ }
 {
-    characters[0] = place(10_000_000, n);
-    characters[1] = place(1_000_000, n);
-    characters[2] = place(100_000, n);
-    characters[3] = place(10_000, n);
-    characters[4] = place(1_000, n);
-    characters[5] = place(100, n);
-    characters[6] = place(10, n);
+    characters[0] = digit_or_space(10_000_000, n);
+    characters[1] = digit_or_space(1_000_000, n);
+    characters[2] = digit_or_space(100_000, n);
+    characters[3] = digit_or_space(10_000, n);
+    characters[4] = digit_or_space(1_000, n);
+    characters[5] = digit_or_space(100, n);
+    characters[6] = digit_or_space(10, n);
     characters[7] = b'0' + (n % 10) as u8;
 }

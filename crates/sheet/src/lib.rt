@@ -17,8 +17,19 @@ pub use writer::print_rows;
 pub use writer::write;
 ghost use mathlib.Core.Path.{_≡_};
 ghost use Prim.Native.Nat.{_<_};
-ghost use Rattle.answer.specs.Told.{told};
+ghost use Rattle.answer.specs.Told.{told, refusal};
 ghost use Rattle.sheet.specs.Sheet.{refusalAt};
+
+// A refusal that has no place.
+fn refused(number: u32) -> Answer
+    ensures { λ r. ⌜ told r ≡ refusal number 0 0 ⌝ }
+{
+    Answer::Refused {
+        number,
+        row: 0,
+        column: 0,
+    }
+}
 
 // The refusal at a place that counts from 0, row by row of so many columns.
 fn refused_at(number: u32, at: usize, columns: usize) -> Answer

@@ -3,6 +3,7 @@ use crate::field::Field;
 use crate::field::scan;
 use crate::line::LINE;
 use crate::line::ROW;
+use crate::refused;
 use crate::refused_at;
 use answer::Answer;
 use answer::LENT_SPACE_SHORT;
@@ -99,18 +100,10 @@ pub fn read(sheet: &[u8], table: &mut [u32]) -> Answer
 {
     let lines = rows_in(sheet.len(), LINE);
     if lines == 0 {
-        return Answer::Refused {
-            number: SHEET_LENGTH,
-            row: 0,
-            column: 0,
-        };
+        return refused(SHEET_LENGTH);
     }
     if table.len() < ROW * lines {
-        return Answer::Refused {
-            number: LENT_SPACE_SHORT,
-            row: 0,
-            column: 0,
-        };
+        return refused(LENT_SPACE_SHORT);
     }
     let at = first_misprint(sheet, lines);
     if at < PLACES * lines {

@@ -2,6 +2,7 @@
 use crate::line::LINE;
 use crate::line::ROW;
 use crate::line::print_row;
+use crate::refused;
 use crate::refused_at;
 use answer::Answer;
 use answer::LENT_SPACE_SHORT;
@@ -58,22 +59,14 @@ pub fn write(table: &[u32], sheet: &mut [u8]) -> Answer
 {
     let rows = rows_in(table.len(), ROW);
     if rows == 0 {
-        return Answer::Refused {
-            number: SHEET_LENGTH,
-            row: 0,
-            column: 0,
-        };
+        return refused(SHEET_LENGTH);
     }
     let at = first_too_large(table);
     if at < table.len() {
         return refused_at(OUT_OF_RANGE, at, ROW);
     }
     if sheet.len() < LINE * rows {
-        return Answer::Refused {
-            number: LENT_SPACE_SHORT,
-            row: 0,
-            column: 0,
-        };
+        return refused(LENT_SPACE_SHORT);
     }
     print_rows(table, sheet);
     Answer::Count((LINE * rows) as u32)

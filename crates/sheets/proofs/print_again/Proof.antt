@@ -12,14 +12,8 @@ again-requires c κs = search needs
 enum-known-number : tie.Need-enum-known-number
 enum-known-number c = search needs
 
-print-line-requires : tie.Need-print-line-requires
-print-line-requires c κs = search needs
-
-slice-aggregate-write-all : tie.Need-slice-aggregate-write-all
-slice-aggregate-write-all c = search needs
-
-write-all-requires : tie.Need-write-all-requires
-write-all-requires c κs = search needs
+print-row-requires : tie.Need-print-row-requires
+print-row-requires c κs = search needs
 
 enum-known-count : tie.Need-enum-known-count
 enum-known-count c = search needs
@@ -40,8 +34,8 @@ part-write-all-end c =
     rw (at-again .again .kept .1 .1 .0)
     (again-counted (now (args .sheet)) (now (args .bytes)) (length (now (args .table))) (at-again .again .ensures .0) (c .before .before .count .given .1))
 
-write-all-requires-2 : tie.Need-write-all-requires-2
-write-all-requires-2 c κs = search needs
+write-all-requires : tie.Need-write-all-requires
+write-all-requires c κs = search needs
 
 same-length : tie.Need-same-length
 same-length c = search needs
@@ -67,15 +61,13 @@ print-again-spec =
     (tie.spec
     again-requires
     enum-known-number
-    print-line-requires
-    slice-aggregate-write-all
-    write-all-requires
+    print-row-requires
     enum-known-count
     cast-write-all
     sub-write-all
     part-write-all-start
     part-write-all-end
-    write-all-requires-2
+    write-all-requires
     same-length
     same-length-2
     returns

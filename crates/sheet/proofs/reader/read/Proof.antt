@@ -12,8 +12,13 @@ use Rattle.sheet.proofs.reader.read.Tie as tie
 rows-in-requires : tie.Need-rows-in-requires
 rows-in-requires c κs = search needs
 
+refused-requires : tie.Need-refused-requires
+refused-requires c κs = search needs
+
 returns : tie.Need-returns
-returns c = reading-length _ _ (c .before .rows-in .ensures) (c .if1 .taken)
+returns c =
+    let case = reading-length _ _ (c .before .before .rows-in .ensures) (c .before .if1 .taken) in
+    (c .refused .ensures ∙ case .0, case .1)
 
 whole : (c : tie.Else1) → Whole 65 (length (now (c .before .before .before .before .args .sheet))) (c .before .rows-in .result)
 whole c = rows-whole _ _ (c .before .rows-in .ensures) (c .if1 .left)
@@ -21,8 +26,14 @@ whole c = rows-whole _ _ (c .before .rows-in .ensures) (c .if1 .left)
 mul-if2 : tie.Need-mul-if2
 mul-if2 c = omega (arith, whole c)
 
+refused-requires-2 : tie.Need-refused-requires-2
+refused-requires-2 c κs = search needs
+
 returns-2 : tie.Need-returns-2
-returns-2 c = reading-short _ _ (c .before .before .rows-in .ensures) (c .before .if1 .left) (c .if2 .taken)
+returns-2 c =
+    let at-if1 = c .before .before in
+    let case = reading-short _ _ (at-if1 .before .rows-in .ensures) (at-if1 .if1 .left) (c .before .if2 .taken) in
+    (c .refused2 .ensures ∙ case .0, case .1)
 
 first-misprint-requires : tie.Need-first-misprint-requires
 first-misprint-requires c κs = omega (arith, whole (c .before))
@@ -64,8 +75,10 @@ read-spec =
     tie.close
     (tie.spec
     rows-in-requires
+    refused-requires
     returns
     mul-if2
+    refused-requires-2
     returns-2
     first-misprint-requires
     mul-if3

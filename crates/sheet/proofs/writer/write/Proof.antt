@@ -13,8 +13,13 @@ use Rattle.sheet.proofs.writer.write.Tie as tie
 rows-in-requires : tie.Need-rows-in-requires
 rows-in-requires c κs = search needs
 
+refused-requires : tie.Need-refused-requires
+refused-requires c κs = search needs
+
 returns : tie.Need-returns
-returns c = writing-length _ _ (c .before .rows-in .ensures) (c .if1 .taken)
+returns c =
+    let case = writing-length _ _ (c .before .before .rows-in .ensures) (c .before .if1 .taken) in
+    (c .refused .ensures ∙ case .0, case .1)
 
 whole : (c : tie.Else1) → Whole 8 (length (now (c .before .before .before .before .args .table))) (c .before .rows-in .result)
 whole c = rows-whole _ _ (c .before .rows-in .ensures) (c .if1 .left)
@@ -35,12 +40,16 @@ returns-2 c =
 mul-if3 : tie.Need-mul-if3
 mul-if3 c = omega (arith, whole (c .before .before))
 
+refused-requires-2 : tie.Need-refused-requires-2
+refused-requires-2 c κs = search needs
+
 returns-3 : tie.Need-returns-3
 returns-3 c =
-    let at-if2 = c .before in
+    let at-if2 = c .before .before in
     let at-search = at-if2 .before in
     let at-if1 = at-search .before in
-    writing-short _ _ (at-if1 .before .rows-in .ensures) (at-if1 .if1 .left) (at-search .first-too-large .ensures) (at-if2 .if2 .left) (c .if3 .taken)
+    let case = writing-short _ _ (at-if1 .before .rows-in .ensures) (at-if1 .if1 .left) (at-search .first-too-large .ensures) (at-if2 .if2 .left) (c .before .if3 .taken) in
+    (c .refused2 .ensures ∙ case .0, case .1)
 
 print-rows-requires : tie.Need-print-rows-requires
 print-rows-requires c κs = search needs
@@ -68,11 +77,13 @@ write-spec =
     tie.close
     (tie.spec
     rows-in-requires
+    refused-requires
     returns
     first-too-large-requires
     refused-at-requires
     returns-2
     mul-if3
+    refused-requires-2
     returns-3
     print-rows-requires
     mul-t5
