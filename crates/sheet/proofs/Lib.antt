@@ -4,3 +4,4 @@ pub mod Lists
 pub mod Sheets
 pub mod Answers
 pub mod RoundTrip
+pub mod Examples

@@ -1,14 +1,14 @@
 -- A sheet that is read and written again is the same sheet, and a table that is written and read again is the same table, with lent
 -- storage of any sufficient length, whose rest stays. Assumes nothing.
-use mathlib.Core.Path.{_≡_, refl, sym, ap, ap₂, subst, _∙_}
+use mathlib.Core.Path.{_≡_, refl, sym, ap, ap₂, _∙_}
 use mathlib.Core.Bool.{Bool, true, false, cond, not, false≢true}
 use mathlib.Core.List.{List, [], _∷_, _++_}
-use Prim.Native.Nat.{ℕ, suc, _+_, _*_, _/_, _%_, _^_, _<_, _≤_}
+use Prim.Native.Nat.{ℕ, _+_, _*_, _/_, _%_, _^_, _<_, _≤_}
 use native.Mathlib.Omega.{arith}
-use lib.Dec.{eqb, ltb}
+use lib.Dec.{eqb}
 use lib.ListN.{length, getD, take, drop}
 use lib.Seq.{take-all, take-at, take-suc, getD-at}
-use borrow.Author.Tests.{eq-eqb, ne-eqb, le-ltb, ltb-false, eqb-true, eqb-false, not-false}
+use borrow.Author.Tests.{ne-eqb, le-ltb, ltb-false, eqb-true, eqb-false, not-false}
 use Rattle.answer.specs.Told.{Told, counted, refusal, lent-space-short}
 use Rattle.answer.specs.Length.{rowsIn}
 use Rattle.sheet.specs.Field.{field, isNumber, value, printed}

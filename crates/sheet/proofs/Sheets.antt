@@ -1,20 +1,20 @@
 -- The laws of lines and sheets: a place's judgement and its number, a line's fields, and what each answer says. Assumes nothing.
 use mathlib.Core.Path.{_≡_, refl, sym, ap, _∙_}
-use mathlib.Core.Bool.{Bool, true, false, cond, not}
-use mathlib.Core.List.{List, [], _∷_, _++_}
+use mathlib.Core.Bool.{not}
+use mathlib.Core.List.{List, [], _∷_}
 use Prim.Native.Nat.{ℕ, _+_, _-_, _*_, _/_, _%_, _<_, _≤_}
 use native.Mathlib.Nat.{one-mul}
 use native.Mathlib.Numerals.{add-one}
 use native.Mathlib.Omega.{arith}
-use lib.Dec.{eqb, ltb}
-use lib.ListN.{length, getD, take, drop, set, length-append}
+use lib.Dec.{eqb}
+use lib.ListN.{length, getD, set, length-append}
 use borrow.Author.Tests.{eq-eqb, ne-eqb, lt-ltb, le-ltb}
 use borrow.Rule.Slice.PartMut.{putMid}
 use Rattle.sheet.specs.Field.{field, isNumber, value, printed}
 use Rattle.sheet.specs.Line.{joined, part, line}
 use Rattle.sheet.specs.Sheet.{fieldAt, misprinted, over, numbersOf, linesOf, afterPrinting}
 use Rattle.sheet.specs.declared.field.Field.{Field}
-use Rattle.sheet.proofs.Lists.{part-at, over-set, over-part, over-length, over-whole, joined-length, joined-over}
+use Rattle.sheet.proofs.Lists.{part-at, over-set, over-whole, joined-length, joined-over}
 
 -- The last byte of a line.
 pub misprinted-end : (sheet : List ℕ) (at : ℕ) → at % 9 ≡ 8 → not (eqb (getD sheet (65 * (at / 9) + 64) 0) 10) ≡ misprinted sheet at

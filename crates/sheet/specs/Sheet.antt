@@ -1,6 +1,6 @@
 -- A sheet read into a lent table, and a table written as a sheet. Document 01, "The sheet and the table" and "What a refused sheet is
 -- told": "Reading tests 1, then 9, then 2 from the top, leftmost field first"; "The writer tests 1, 4 (..), 9".
-use Prim.Native.Nat.{ℕ, suc, _+_, _*_, _/_, _%_}
+use Prim.Native.Nat.{ℕ, _+_, _*_, _/_, _%_}
 use mathlib.Core.Bool.{Bool, cond, not}
 use mathlib.Core.List.{List, [], _∷_, _++_}
 use lib.ListN.{length, getD, drop}

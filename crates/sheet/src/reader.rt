@@ -15,7 +15,6 @@ ghost use Prim.Native.Nat.{_<_, _≤_, _+_, _*_, _/_, _%_};
 ghost use lib.ListN.{length};
 ghost use Rattle.answer.specs.Told.{told};
 ghost use Rattle.answer.specs.First.{first};
-ghost use Rattle.answer.specs.Length.{mostRows};
 ghost use Rattle.sheet.specs.Field.{field, value};
 ghost use Rattle.sheet.specs.Sheet.{fieldAt, misprinted, over, numbersOf, reading, afterReading};
 

@@ -1,12 +1,12 @@
 -- What reading and then writing a sheet comes to, by the two ways out of reading. Assumes nothing.
 use mathlib.Core.Path.{_≡_, refl, sym, ap, _∙_}
 use mathlib.Core.Bool.{Bool, true, false, cond}
-use mathlib.Core.List.{List, _++_}
+use mathlib.Core.List.{List}
 use Prim.Native.Nat.{ℕ, _*_, _-_, _≤_}
 use native.Mathlib.Nat.{sub-zero}
 use native.Mathlib.Omega.{arith}
 use lib.Dec.{eqb, ltb}
-use lib.ListN.{length, take, drop}
+use lib.ListN.{length, take}
 use borrow.Author.Tests.{eq-eqb, ne-eqb, eqb-false, ltb-true, ltb-false}
 use Rattle.answer.specs.Told.{Told, told, counted, refusal, accepts, lent-space-short}
 use Rattle.answer.specs.declared.Answer.{Answer}

@@ -3,7 +3,7 @@ use mathlib.Core.Path.{sym, ap, _∙_}
 use Prim.Native.Nat.{ℕ}
 use borrow.Author.Needs.{needs}
 use borrow.Author.Tests.{eq-eqb, ne-eqb, le-leb, lt-leb}
-use Rattle.answer.specs.Length.{rowsIn, mostRows}
+use Rattle.answer.specs.Length.{rowsIn}
 use Rattle.answer.proofs.Lengths.{rows-zero}
 use Rattle.answer.proofs.rows_in.Statement.{statement}
 use Rattle.answer.proofs.rows_in.Tie as tie

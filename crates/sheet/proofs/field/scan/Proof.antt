@@ -1,12 +1,10 @@
 -- `sheet::field::scan` meets its contract. The loop's invariant: `made` is what the first k characters make. Assumes nothing.
-use mathlib.Core.Path.{_≡_, refl, ap, _∙_, sym}
-use Prim.Native.Nat.{ℕ, _+_, _-_, _≤_, _<_}
-use native.Mathlib.Numerals.{add-one}
+use mathlib.Core.Path.{_≡_, refl, ap, _∙_}
+use Prim.Native.Nat.{_-_, _≤_, _<_}
 use native.Mathlib.Omega.{arith}
-use lib.ListN.{length, getD, take}
+use lib.ListN.{length, take}
 use lib.Seq.{take-all}
 use Rattle.sheet.specs.Field.{field, after}
-use Rattle.sheet.specs.declared.field.Field.{Field}
 use Rattle.sheet.proofs.Fields.{field-more, field-small}
 use borrow.Author.Needs.{needs}
 use Rattle.sheet.proofs.field.scan.Statement.{statement}

@@ -4,10 +4,10 @@ use native.Mathlib.Omega.{arith}
 use denote.Ref.{now}
 use Rattle.sheet.proofs.Sheets.{fields, field-long, fields-length, line-end}
 use mathlib.Core.Path.{_≡_, refl, ap, _∙_}
-use Prim.Native.Nat.{ℕ, _*_, _-_, _≤_, _+_}
-use lib.ListN.{length, getD, length-set}
+use Prim.Native.Nat.{_-_, _≤_, _+_}
+use lib.ListN.{length}
 use borrow.Author.Needs.{needs}
-use Rattle.sheet.specs.Line.{joined, line}
+use Rattle.sheet.specs.Line.{joined}
 use Rattle.sheet.specs.Sheet.{over}
 use Rattle.sheet.proofs.Lists.{joined-over, over-length}
 use Rattle.sheet.proofs.line.print_row.Statement.{statement}

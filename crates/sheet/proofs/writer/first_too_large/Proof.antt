@@ -1,12 +1,11 @@
 -- `sheet::writer::first_too_large` meets its contract. The loop's invariant: no number before `at` is too large. Assumes nothing.
-use mathlib.Core.Path.{_≡_, sym, ap, _∙_}
+use mathlib.Core.Path.{_≡_, sym}
 use mathlib.Core.Bool.{false}
 use Prim.Native.Nat.{ℕ, _<_, _≤_, _-_}
-use native.Mathlib.Nat.{le-antisymm}
 use lib.ListN.{length}
 use borrow.Author.Count.{below-none, below-more}
 use borrow.Author.Tests.{lt-ltb, le-ltb}
-use Rattle.answer.proofs.Places.{first-is, first-none, first-end}
+use Rattle.answer.proofs.Places.{first-is, first-end}
 use Rattle.sheet.specs.Sheet.{tooLarge}
 use borrow.Author.Needs.{needs}
 use Rattle.sheet.proofs.writer.first_too_large.Statement.{statement}

@@ -1,7 +1,7 @@
 -- `sheet::writer::print_rows` meets its contract. The loop's invariant: the rows before `row` are printed over the front of the bytes.
 -- Assumes nothing.
 use mathlib.Core.Path.{_≡_, refl, ap, _∙_}
-use Prim.Native.Nat.{ℕ, _+_, _*_, _-_, _≤_, _/_}
+use Prim.Native.Nat.{ℕ, _+_, _-_, _≤_, _/_}
 use native.Mathlib.Omega.{arith}
 use lib.ListN.{length}
 use denote.Ref.{now}
