@@ -1,11 +1,10 @@
-// Runs the sheets that its arguments name, each read and written again: under its name stands the
-// same sheet, or the refusal's line, once with enough lent, once with a table of ten rows, once
-// with bytes for ten lines. Then runs the writer on tables that no sheet gives. `again` is proved to
-// give the sheet that it was given; what reaches the disk and the terminal is tested, against the
-// file stdout.
+// Runs the sheets that its arguments name: each is read and written again, and under its name stands
+// the same sheet, or the refusal's line. After the word --lendings it prints for each sheet what is
+// answered with more and less lent, and at the word --tables what the writer answers for tables that
+// no sheet gives. `again` is proved to give the sheet that it was given; what comes from the disk and
+// goes to the terminal is tested, against the file stdout.
 use answer::Answer;
 use libc::STDOUT_FILENO;
-ghost use Prim.Native.Nat.{_≤_};
 ghost use mathlib.Core.Path.{_≡_};
 ghost use lib.ListN.{length};
 ghost use Rattle.answer.specs.Told.{told};
@@ -13,6 +12,10 @@ ghost use Rattle.sheets.specs.Again.{again, afterAgain};
 
 // The numbers of the longest sheet.
 const NUMBERS: usize = 2488;
+// The numbers and the bytes of a line more.
+const TABLE: usize = 2496;
+
+const BYTES: usize = 20_280;
 
 // Reads a sheet into the table and writes the rows that were read into the bytes.
 fn again(sheet: &[u8], table: &mut [u32], bytes: &mut [u8]) -> Answer
@@ -55,18 +58,39 @@ fn print_again(sheet: &[u8], table: &mut [u32], bytes: &mut [u8]) {
     }
 }
 
-// The three lendings of one sheet.
-fn lend(sheet: &[u8], table: &mut [u32], bytes: &mut [u8])
-    requires { ⌜ 80 ≤ length (now table) ⌝ }
-    requires { ⌜ 650 ≤ length (now bytes) ⌝ }
-{
-    print_again(sheet, table, bytes);
-    print_again(sheet, &mut table[0..80], bytes);
-    print_again(sheet, table, &mut bytes[0..650]);
+// Prints an answer: number, row, column, count.
+fn print_answer(answer: Answer) {
+    match answer {
+        Answer::Refused {
+            number,
+            row,
+            column,
+        } => print_row([number, row, column, 0, 0, 0, 0, 0]),
+        Answer::Count(count) => print_row([0, 0, 0, count, 0, 0, 0, 0]),
+    }
+}
+
+// Prints what is answered for a sheet with so many numbers and bytes lent.
+fn lend(sheet: &[u8], numbers: usize, room: usize) {
+    if NUMBERS < numbers || BYTES < room {
+        return;
+    }
+    let mut table = [0u32; NUMBERS];
+    let mut bytes = [0u8; BYTES];
+    print_answer(again(sheet, &mut table[0..numbers], &mut bytes[0..room]));
+}
+
+// Enough lent; just enough for eleven lines; a number short; a byte short; nothing.
+fn run_lendings(sheet: &[u8]) {
+    lend(sheet, NUMBERS, BYTES);
+    lend(sheet, 88, 715);
+    lend(sheet, 87, 715);
+    lend(sheet, 88, 714);
+    lend(sheet, 0, 0);
 }
 
 // Runs one file. A file longer than the buffer is cut there, at a length that is still refused.
-fn run(path: &[u8]) {
+fn run(path: &[u8], lendings: bool) {
     let file = os::open_read(path);
     if file < 0 {
         os::fail(path);
@@ -77,46 +101,36 @@ fn run(path: &[u8]) {
     libc::close(file);
     io::write_all(STDOUT_FILENO, path);
     io::write_all(STDOUT_FILENO, b"\n");
-    let mut table = [0u32; NUMBERS];
-    let mut bytes = io::large_buffer();
-    lend(&sheet[..length], &mut table, &mut bytes);
-}
-
-// Runs the file that one argument names.
-fn run_argument(i: usize) {
-    let mut path = io::buffer();
-    let length = os::arg(i, &mut path);
-    run(&path[..length]);
-}
-
-// Writes a table of zeros but for one number, into so many bytes, and prints the answer: number,
-// row, column, count.
-fn write_zeros(length: usize, at: usize, number: u32, room: usize) {
-    if 2496 < length || 2496 <= at || 20_280 < room {
+    if lendings {
+        run_lendings(&sheet[..length]);
         return;
     }
-    let mut table = [0u32; 2496];
-    table[at] = number;
-    let mut bytes = [0u8; 20_280];
-    match sheet::write(&table[0..length], &mut bytes[0..room]) {
-        Answer::Refused {
-            number,
-            row,
-            column,
-        } => print_row([number, row, column, 0, 0, 0, 0, 0]),
-        Answer::Count(count) => print_row([0, 0, 0, count, 0, 0, 0, 0]),
+    let mut table = [0u32; NUMBERS];
+    let mut bytes = io::large_buffer();
+    print_again(&sheet[..length], &mut table, &mut bytes);
+}
+
+// Writes a table of zeros but for one number, into so many bytes, and prints the answer.
+fn write_zeros(length: usize, at: usize, number: u32, room: usize) {
+    if TABLE < length || TABLE <= at || BYTES < room {
+        return;
     }
+    let mut table = [0u32; TABLE];
+    table[at] = number;
+    let mut bytes = [0u8; BYTES];
+    print_answer(sheet::write(&table[0..length], &mut bytes[0..room]));
 }
 
 // Tables that no sheet gives: wrong lengths, and numbers too large for a field.
 fn run_tables() {
-    write_zeros(0, 0, 0, 20_280);
-    write_zeros(7, 0, 0, 20_280);
+    io::write_all(STDOUT_FILENO, b"--tables\n");
+    write_zeros(0, 0, 0, BYTES);
+    write_zeros(7, 0, 0, BYTES);
     write_zeros(8, 0, 0, 65);
-    write_zeros(9, 0, 0, 20_280);
-    write_zeros(2488, 0, 0, 20_215);
-    write_zeros(2488, 0, 0, 20_214);
-    write_zeros(2496, 0, 0, 20_280);
+    write_zeros(9, 0, 0, BYTES);
+    write_zeros(NUMBERS, 0, 0, 20_215);
+    write_zeros(NUMBERS, 0, 0, 20_214);
+    write_zeros(TABLE, 0, 0, BYTES);
     write_zeros(80, 79, 99_999_999, 650);
     write_zeros(80, 79, 100_000_000, 649);
     write_zeros(80, 40, 4_294_967_295, 0);
@@ -125,13 +139,27 @@ fn run_tables() {
     write_zeros(80, 80, 100_000_000, 650);
 }
 
+// Runs one argument, and answers whether sheets are run with their lendings from here on.
+fn run_argument(i: usize, lendings: bool) -> bool {
+    let mut word = io::buffer();
+    let length = os::arg(i, &mut word);
+    if check::same(&word[..length], b"--lendings") {
+        return true;
+    }
+    if check::same(&word[..length], b"--tables") {
+        run_tables();
+        return lendings;
+    }
+    run(&word[..length], lendings);
+    lendings
+}
+
 fn main() {
     let count = os::arg_count();
+    let mut lendings = false;
     let mut i = 1;
     while i < count {
-        run_argument(i);
+        lendings = run_argument(i, lendings);
         i += 1;
     }
-    io::write_all(STDOUT_FILENO, b"tables\n");
-    run_tables();
 }

@@ -5,10 +5,10 @@ use Rattle.sheets.proofs.main.Statement.{statement}
 use Rattle.sheets.proofs.main.Tie as tie
 
 abbrev Inv-loop : tie.InvT-loop
-Inv-loop count i₀ t3 i = Unit {0}
+Inv-loop count lendings₀ i₀ lendings i = Unit {0}
 
 abbrev μ-loop : tie.MeasureT-loop
-μ-loop count i₀ t3 i = count - i
+μ-loop count lendings₀ i₀ lendings i = count - i
 
 arg-count-requires : tie.Need-arg-count-requires Inv-loop μ-loop
 arg-count-requires c κs = search needs
@@ -28,15 +28,6 @@ loop-less c = search needs
 loop-again : tie.Need-loop-again Inv-loop μ-loop
 loop-again c = search needs
 
-slice-aggregate-write-all : tie.Need-slice-aggregate-write-all Inv-loop μ-loop
-slice-aggregate-write-all c = search needs
-
-write-all-requires : tie.Need-write-all-requires Inv-loop μ-loop
-write-all-requires c κs = search needs
-
-run-tables-requires : tie.Need-run-tables-requires Inv-loop μ-loop
-run-tables-requires c κs = search needs
-
 returns : tie.Need-returns Inv-loop μ-loop
 returns c = search needs
 
@@ -52,7 +43,4 @@ main-spec =
     add-i
     loop-less
     loop-again
-    slice-aggregate-write-all
-    write-all-requires
-    run-tables-requires
     returns)
