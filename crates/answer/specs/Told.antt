@@ -18,7 +18,8 @@ counted n = record { number = 0; row = 0; column = 0; count = n }
 abbrev pub refusal : ℕ → ℕ → ℕ → Told
 refusal number row column = record { number = number; row = row; column = column; count = 0 }
 
--- The paper's number and values for each case of the code's answer.
+-- The paper's number and values for each case of the code's answer. (Count 0 and a refusal numbered 0 would tell the same; neither
+-- is ever due: an accepted sheet or table has a row, and the numbers start at 1.)
 abbrev pub told : Answer → Told
 told (Count n) = counted n
 told (Refused number row column) = refusal number row column

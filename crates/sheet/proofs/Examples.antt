@@ -3,12 +3,12 @@
 use mathlib.Core.Path.{_≡_, refl}
 use mathlib.Core.List.{List, [], _∷_}
 use Prim.Native.Nat.{ℕ}
-use Rattle.answer.specs.Told.{counted, refusal, misprint}
+use Rattle.answer.specs.Told.{counted}
 use Rattle.answer.specs.First.{first}
 use Rattle.answer.specs.Length.{rowsIn}
 use Rattle.sheet.specs.Field.{digitAfter, after, field, isNumber, digitOrSpace, printed}
 use Rattle.sheet.specs.Line.{joined, part, line}
-use Rattle.sheet.specs.Sheet.{refusalAt, fieldAt, misprinted, reading, linesOf, tooLarge, writing}
+use Rattle.sheet.specs.Sheet.{fieldAt, misprinted, reading, linesOf, tooLarge, writing}
 
 -- P1's rows.
 abbrev pub p1 : List ℕ

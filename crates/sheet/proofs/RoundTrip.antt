@@ -190,6 +190,21 @@ bytes-written table sheet accepted =
     ap₂ (λ (a : Told) (l : List ℕ). take (a .count) l) (sym (written .0)) (sym (written .1))
     ∙ take-at lines (drop (length lines) sheet) (65 * rows) (lines-length rows table)
 
+-- What is after those rows, or after those bytes, stays.
+pub read-rest : (sheet table : List ℕ) → reading sheet (length table) .number ≡ 0
+    → afterReading sheet table ≡ rowsRead sheet table ++ drop (length (rowsRead sheet table)) table
+unfolding over
+read-rest sheet table accepted =
+    let readable = accepted-readable sheet (length table) accepted in
+    rw (rows-read sheet table accepted) (sym (readable-accepted sheet table _ (readable .0) (readable .1) .1))
+
+pub written-rest : (table sheet : List ℕ) → writing table (length sheet) .number ≡ 0
+    → afterWriting table sheet ≡ bytesWritten table sheet ++ drop (length (bytesWritten table sheet)) sheet
+unfolding over
+written-rest table sheet accepted =
+    let writable = accepted-writable table (length sheet) accepted in
+    rw (bytes-written table sheet accepted) (sym (writable-accepted table sheet _ (writable .0) (writable .1) .1))
+
 -- A sheet that is read and written again is the same sheet, byte for byte. Where too little is lent for that, it is said, and no
 -- byte changes.
 module _ (sheet table bytes : List ℕ) (accepted : reading sheet (length table) .number ≡ 0) where

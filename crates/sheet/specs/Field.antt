@@ -10,7 +10,7 @@ use Rattle.sheet.specs.declared.field.Field.the-variants.{Blank, Number,
 abbrev pub isDigit : ℕ → Bool
 isDigit character = leb 48 character && leb character 57
 
--- A number that one more digit makes longer.
+-- A number with one digit more after it; any other character there makes no field.
 unfoldable pub digitAfter : ℕ → ℕ → Field
 digitAfter n character = cond (isDigit character) (Number (10 * n + (character - 48))) Misprint
 
@@ -36,11 +36,11 @@ value Blank = 0
 value (Number n) = n
 value Misprint = 0
 
--- The character of a number's digit that counts `weight` times, 10 or more: a space to the left of the number.
+-- The character that prints a number's digit of the weight 10, 100, ..: a space where the number has no such digit.
 unfoldable pub digitOrSpace : ℕ → ℕ → ℕ
 digitOrSpace weight n = cond (ltb n weight) 32 (48 + n / weight % 10)
 
--- A number's field: its eight characters.
+-- A number's eight characters. (Of a number over 99,999,999 they are the last eight digits, and the writer refuses it.)
 unfoldable pub printed : ℕ → List ℕ
 printed n =
     digitOrSpace 10000000 n ∷ digitOrSpace 1000000 n ∷ digitOrSpace 100000 n ∷ digitOrSpace 10000 n

@@ -14,7 +14,7 @@ pub enum Field {
     Misprint,
 }
 
-// A number that one more digit makes longer.
+// A number with one digit more after it; any other character there makes no field.
 fn digit_after(n: u32, character: u8) -> Field
     requires { ⌜ n < 10000000 ⌝ }
     ensures { λ r. ⌜ r ≡ digitAfter n character ⌝ }
@@ -64,7 +64,7 @@ pub(crate) fn scan(characters: &[u8]) -> Field
     made
 }
 
-// The character of the digit that counts `weight` times: a space to the left of the number.
+// The character that prints a number's digit of a weight: a space where it has no such digit.
 fn digit_or_space(weight: u32, n: u32) -> u8
     requires { ⌜ 0 < weight ⌝ }
     ensures { λ r. ⌜ r ≡ digitOrSpace weight n ⌝ }
@@ -75,7 +75,7 @@ fn digit_or_space(weight: u32, n: u32) -> u8
     b'0' + (n / weight % 10) as u8
 }
 
-// Prints a number over the eight characters of a field.
+// Prints a number over the eight characters of a field: its last eight digits, if it has more.
 pub(crate) fn print(n: u32, characters: &mut [u8])
     requires { ⌜ length (now characters) ≡ 8 ⌝ }
     ensures { λ _. ⌜ now (characters .exit) ≡ printed n ⌝ }

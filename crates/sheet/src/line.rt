@@ -24,7 +24,8 @@ pub(crate) fn print_row(row: &[u32], bytes: &mut [u8])
     bytes[64] = b'\n';
 }
 
-// The line of eight numbers, by value.
+// The line of eight numbers, by value. Of a number over 99,999,999 the last eight digits are
+// printed.
 pub fn print_line(row: [u32; 8]) -> [u8; 65]
     ensures { λ r. ⌜ r ≡ line row ⌝ }
 {

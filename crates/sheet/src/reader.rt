@@ -101,7 +101,8 @@ pub fn read(sheet: &[u8], table: &mut [u32]) -> Answer
     if lines == 0 {
         return refused(SHEET_LENGTH);
     }
-    if table.len() < ROW * lines {
+    let lent = table.len();
+    if lent < ROW * lines {
         return refused(LENT_SPACE_SHORT);
     }
     let at = first_misprint(sheet, lines);

@@ -1,7 +1,7 @@
 // Runs the sheets that its arguments name: each is read and written again, and under its name stands
 // the same sheet, or the refusal's line. After the word --lendings it prints for each sheet what is
 // answered with more and less lent, and at the word --tables what the writer answers for tables that
-// no sheet gives. `again` is proved to give the sheet that it was given; what comes from the disk and
+// no sheet gives. `again` is proved to give the same sheet or the refusal; what comes from the disk and
 // goes to the terminal is tested, against the file stdout.
 use answer::Answer;
 use libc::STDOUT_FILENO;
@@ -12,7 +12,7 @@ ghost use Rattle.sheets.specs.Again.{again, afterAgain};
 
 // The numbers of the longest sheet.
 const NUMBERS: usize = 2488;
-// The numbers and the bytes of a line more.
+// The numbers and the bytes of a sheet that is a line longer.
 const TABLE: usize = 2496;
 
 const BYTES: usize = 20_280;
@@ -110,33 +110,44 @@ fn run(path: &[u8], lendings: bool) {
     print_again(&sheet[..length], &mut table, &mut bytes);
 }
 
-// Writes a table of zeros but for one number, into so many bytes, and prints the answer.
-fn write_zeros(length: usize, at: usize, number: u32, room: usize) {
-    if TABLE < length || TABLE <= at || BYTES < room {
+// Writes the front of a table into so many bytes, and prints the answer.
+fn write_front(table: &[u32], length: usize, room: usize) {
+    if table.len() < length || BYTES < room {
+        return;
+    }
+    let mut bytes = [0u8; BYTES];
+    print_answer(sheet::write(&table[0..length], &mut bytes[0..room]));
+}
+
+// The same for a table of zeros but for one number at two places.
+fn write_zeros(length: usize, at: usize, also_at: usize, number: u32, room: usize) {
+    if TABLE <= at || TABLE <= also_at {
         return;
     }
     let mut table = [0u32; TABLE];
     table[at] = number;
-    let mut bytes = [0u8; BYTES];
-    print_answer(sheet::write(&table[0..length], &mut bytes[0..room]));
+    table[also_at] = number;
+    write_front(&table, length, room);
 }
 
 // Tables that no sheet gives: wrong lengths, and numbers too large for a field.
 fn run_tables() {
     io::write_all(STDOUT_FILENO, b"--tables\n");
-    write_zeros(0, 0, 0, BYTES);
-    write_zeros(7, 0, 0, BYTES);
-    write_zeros(8, 0, 0, 65);
-    write_zeros(9, 0, 0, BYTES);
-    write_zeros(NUMBERS, 0, 0, 20_215);
-    write_zeros(NUMBERS, 0, 0, 20_214);
-    write_zeros(TABLE, 0, 0, BYTES);
-    write_zeros(80, 79, 99_999_999, 650);
-    write_zeros(80, 79, 100_000_000, 649);
-    write_zeros(80, 40, 4_294_967_295, 0);
-    write_zeros(80, 0, 100_000_000, 650);
-    write_zeros(79, 0, 100_000_000, 650);
-    write_zeros(80, 80, 100_000_000, 650);
+    write_zeros(0, 0, 0, 0, BYTES);
+    write_zeros(7, 0, 0, 0, BYTES);
+    write_zeros(8, 0, 0, 0, 65);
+    write_zeros(9, 0, 0, 0, BYTES);
+    write_zeros(NUMBERS, 0, 0, 0, 20_215);
+    write_zeros(NUMBERS, 0, 0, 0, 20_214);
+    write_zeros(TABLE, 0, 0, 0, BYTES);
+    write_zeros(80, 79, 79, 99_999_999, 650);
+    write_zeros(80, 79, 79, 100_000_000, 649);
+    write_zeros(80, 40, 79, 4_294_967_295, 0);
+    write_zeros(80, 23, 16, 100_000_000, 650);
+    write_zeros(80, 16, 15, 100_000_000, 650);
+    write_zeros(80, 0, 79, 100_000_000, 650);
+    write_zeros(79, 0, 79, 100_000_000, 0);
+    write_zeros(80, 80, 80, 100_000_000, 650);
 }
 
 // Runs one argument, and answers whether sheets are run with their lendings from here on.
