@@ -54,12 +54,14 @@ module _ (sheet table : List ℕ) {lines : ℕ} (so-many : lines ≡ rowsIn 65 (
           reading-refused
           (rw (← so-many, ← found, ne-eqb lines 0 some, le-ltb (length table) (8 * lines) room, lt-ltb at (9 * lines) h)) refl
 
+      counted-reading : 9 * lines ≤ at → counted lines ≡ reading sheet (length table)
+      unfolding reading
+      counted-reading h =
+          rw (← so-many, ← found, ne-eqb lines 0 some, le-ltb (length table) (8 * lines) room, le-ltb at (9 * lines) h)
+
       pub reading-accepted : 9 * lines ≤ at → Read (counted lines) (over table (numbersOf (8 * lines) sheet))
-      unfolding reading afterReading
-      reading-accepted h =
-          let accepted : counted lines ≡ reading sheet (length table) =
-          rw (← so-many, ← found, ne-eqb lines 0 some, le-ltb (length table) (8 * lines) room, le-ltb at (9 * lines) h) in
-          (accepted, rw (← accepted, ← so-many))
+      unfolding afterReading
+      reading-accepted h = (counted-reading h, rw (← counted-reading h, ← so-many))
 
 module _ (table sheet : List ℕ) {rows : ℕ} (so-many : rows ≡ rowsIn 8 (length table)) where
   abbrev Written : Told → List ℕ → Type 0
@@ -86,12 +88,14 @@ module _ (table sheet : List ℕ) {rows : ℕ} (so-many : rows ≡ rowsIn 8 (len
           writing-refused
           (rw (← so-many, ← found, ne-eqb rows 0 some, le-ltb at (length table) fit, lt-ltb (length sheet) (65 * rows) h)) refl
 
+      counted-writing : 65 * rows ≤ length sheet → counted (65 * rows) ≡ writing table (length sheet)
+      unfolding writing
+      counted-writing h =
+          rw (← so-many, ← found, ne-eqb rows 0 some, le-ltb at (length table) fit, le-ltb (length sheet) (65 * rows) h)
+
       pub writing-accepted : 65 * rows ≤ length sheet → Written (counted (65 * rows)) (over sheet (linesOf rows table))
-      unfolding writing afterWriting
-      writing-accepted h =
-          let accepted : counted (65 * rows) ≡ writing table (length sheet) =
-          rw (← so-many, ← found, ne-eqb rows 0 some, le-ltb at (length table) fit, le-ltb (length sheet) (65 * rows) h) in
-          (accepted, rw (← accepted, ← so-many))
+      unfolding afterWriting
+      writing-accepted h = (counted-writing h, rw (← counted-writing h, ← so-many))
 
 -- A sheet is accepted just where it can be read into what is lent, and a table just where it can be written into what is lent.
 pub accepted-readable : (sheet : List ℕ) (lent : ℕ) → reading sheet lent .number ≡ 0

@@ -3,7 +3,7 @@
 use mathlib.Core.Path.{_≡_, refl, sym, ap, ap₂, _∙_}
 use mathlib.Core.Bool.{Bool, true, false, cond, not, false≢true}
 use mathlib.Core.List.{List, [], _∷_, _++_}
-use Prim.Native.Nat.{ℕ, _+_, _*_, _/_, _%_, _^_, _<_, _≤_}
+use Prim.Native.Nat.{ℕ, _+_, _*_, _/_, _%_, _<_, _≤_}
 use native.Mathlib.Omega.{arith}
 use lib.Dec.{eqb}
 use lib.ListN.{length, getD, take, drop}
@@ -52,26 +52,39 @@ module _ (sheet : List ℕ) (lines : ℕ) (readable : Readable sheet lines) wher
       let right : misprinted sheet (9 * i + 8) ≡ false = readable .right (9 * i + 8) (omega arith) in
       eqb-true _ 10 (not-false _ (rw (row, column) at right))
 
-  -- The numbers of a line are printed as that line.
-  read-line : (i : ℕ) → i < lines → line (part 8 i (numbersOf (8 * lines) sheet)) ≡ part 65 i sheet
-  unfolding line numbersOf fieldAt
-  read-line i hi =
-      let numbers = numbersOf (8 * lines) sheet in
-      let l = part 65 i sheet in
-      let long : length l ≡ 65 = part-length 65 i sheet (omega (arith, readable .whole)) in
-      let number : (j : ℕ) → j < 8 → getD (part 8 i numbers) j 0 ≡ value (field (part 8 j l)) = λ j hj.
+  -- The number that was read from a field, and the field it is printed as.
+  read-number : (i j : ℕ) → i < lines → j < 8
+      → getD (part 8 i (numbersOf (8 * lines) sheet)) j 0 ≡ value (field (fieldAt sheet i j))
+  unfolding numbersOf
+  read-number i j hi hj =
       let row : (8 * i + j) / 8 ≡ i = omega arith in
       let column : (8 * i + j) % 8 ≡ j = omega arith in
-      part-at 8 i numbers j hj
+      part-at 8 i (numbersOf (8 * lines) sheet) j hj
       ∙ joined-at (λ place. value (field (fieldAt sheet (place / 8) (place % 8)))) (8 * lines) (8 * i + j) (omega arith)
-      ∙ rw (row, column) in
-      let again : (j : ℕ) → j < 8 → fields (part 8 i numbers) j ≡ part 8 j l = λ j hj.
-      ap printed (number j hj) ∙ field-of-number (part 8 j l) (part-length 8 j l (omega arith)) (read-field i j hi hj) in
+      ∙ rw (row, column)
+
+  line-long : (i : ℕ) → i < lines → length (part 65 i sheet) ≡ 65
+  line-long i hi = part-length 65 i sheet (omega (arith, readable .whole))
+
+  field-at-long : (i j : ℕ) → i < lines → j < 8 → length (fieldAt sheet i j) ≡ 8
+  unfolding fieldAt
+  field-at-long i j hi hj = part-length 8 j (part 65 i sheet) (omega (arith, line-long i hi))
+
+  read-printed : (i j : ℕ) → i < lines → j < 8 → fields (part 8 i (numbersOf (8 * lines) sheet)) j ≡ fieldAt sheet i j
+  read-printed i j hi hj =
+      ap printed (read-number i j hi hj) ∙ field-of-number (fieldAt sheet i j) (field-at-long i j hi hj) (read-field i j hi hj)
+
+  -- The numbers of a line are printed as that line.
+  read-line : (i : ℕ) → i < lines → line (part 8 i (numbersOf (8 * lines) sheet)) ≡ part 65 i sheet
+  unfolding line fieldAt
+  read-line i hi =
+      let row = part 8 i (numbersOf (8 * lines) sheet) in
+      let l = part 65 i sheet in
       ap₂ (λ (front : List ℕ) (end : ℕ). front ++ (end ∷ []))
-      (joined-same (fields (part 8 i numbers)) (λ j. part 8 j l) 8 again ∙ joined-parts 8 8 l)
+      (joined-same (fields row) (λ j. part 8 j l) 8 (λ j hj. read-printed i j hi hj) ∙ joined-parts 8 8 l)
       (sym (read-end i hi))
-      ∙ sym (take-suc l 64 0 (omega arith))
-      ∙ take-all 65 l (omega arith)
+      ∙ sym (take-suc l 64 0 (omega (arith, line-long i hi)))
+      ∙ take-all 65 l (omega (arith, line-long i hi))
 
   read-again : linesOf lines (numbersOf (8 * lines) sheet) ≡ sheet
   unfolding linesOf
@@ -81,22 +94,21 @@ module _ (sheet : List ℕ) (lines : ℕ) (readable : Readable sheet lines) wher
       ∙ take-all (65 * lines) sheet (omega (arith, readable .whole))
 
   -- What was read can be written.
+  read-small : (place : ℕ) → place < 8 * lines → tooLarge (numbersOf (8 * lines) sheet) place ≡ false
+  unfolding numbersOf tooLarge
+  read-small place h =
+      let characters = fieldAt sheet (place / 8) (place % 8) in
+      let below = rw (field-at-long (place / 8) (place % 8) (omega arith) (omega arith)) at (field-below characters) in
+      rw (joined-at (λ place. value (field (fieldAt sheet (place / 8) (place % 8)))) (8 * lines) place h)
+      (le-ltb 99999999 (value (field characters)) (omega arith))
+
   read-writable : Writable (numbersOf (8 * lines) sheet) lines
-  unfolding numbersOf tooLarge fieldAt
   read-writable =
       record {
         some = readable .some;
         most = readable .most;
         whole = sym (numbers-length (8 * lines) sheet);
-        right = λ place h.
-            let l : place < 8 * lines = omega (arith, numbers-length (8 * lines) sheet) in
-            let characters = fieldAt sheet (place / 8) (place % 8) in
-            let long : length characters ≡ 8 =
-            part-length 8 (place % 8) (part 65 (place / 8) sheet)
-            (omega (arith, part-length 65 (place / 8) sheet (omega (arith, readable .whole)))) in
-            let below : value (field characters) < 10 ^ 8 = rw long at (field-below characters) in
-            rw (joined-at (λ place. value (field (fieldAt sheet (place / 8) (place % 8)))) (8 * lines) place l)
-            (le-ltb 99999999 (value (field characters)) (omega arith));
+        right = λ place h. read-small place (omega (arith, numbers-length (8 * lines) sheet));
       }
 
 -- From a table to its lines and back.
@@ -215,9 +227,8 @@ module _ (sheet table bytes : List ℕ) (accepted : reading sheet (length table)
   read-then-write room =
       let lines = rowsIn 65 (length sheet) in
       let readable = accepted-readable sheet (length table) accepted .0 in
-      let written =
-      writable-accepted (numbersOf (8 * lines) sheet) bytes lines (read-writable sheet lines readable)
-      (omega (arith, readable .whole)) in
+      let numbers = numbersOf (8 * lines) sheet in
+      let written = writable-accepted numbers bytes lines (read-writable sheet lines readable) (omega (arith, readable .whole)) in
       rw (rows-read sheet table accepted) (
         sym (written .0) ∙ ap counted (readable .whole),
         sym (written .1) ∙ ap (λ (l : List ℕ). l ++ drop (length l) bytes) (read-again sheet lines readable),
@@ -229,9 +240,8 @@ module _ (sheet table bytes : List ℕ) (accepted : reading sheet (length table)
   read-then-short short =
       let lines = rowsIn 65 (length sheet) in
       let readable = accepted-readable sheet (length table) accepted .0 in
-      let refused =
-      writable-short (numbersOf (8 * lines) sheet) bytes lines (read-writable sheet lines readable)
-      (omega (arith, readable .whole)) in
+      let numbers = numbersOf (8 * lines) sheet in
+      let refused = writable-short numbers bytes lines (read-writable sheet lines readable) (omega (arith, readable .whole)) in
       rw (rows-read sheet table accepted) (sym (refused .0), sym (refused .1))
 
 -- A table that is written and read again is the same table, number for number.
@@ -242,9 +252,8 @@ unfolding over
 write-then-read table sheet numbers accepted room =
     let rows = rowsIn 8 (length table) in
     let writable = accepted-writable table (length sheet) accepted .0 in
-    let read =
-    readable-accepted (linesOf rows table) numbers rows (written-readable table rows writable)
-    (omega (arith, writable .whole)) in
+    let bytes = linesOf rows table in
+    let read = readable-accepted bytes numbers rows (written-readable table rows writable) (omega (arith, writable .whole)) in
     let whole : rows ≡ length table / 8 = omega (arith, writable .whole) in
     rw (bytes-written table sheet accepted) (
       sym (read .0) ∙ ap counted whole,

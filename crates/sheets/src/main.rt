@@ -11,11 +11,11 @@ ghost use Rattle.answer.specs.Told.{told};
 ghost use Rattle.sheets.specs.Again.{again, afterAgain};
 
 // The numbers of the longest sheet.
-const NUMBERS: usize = 2488;
+const NUMBERS: usize = answer::MOST_ROWS * sheet::ROW;
 // The numbers and the bytes of a sheet that is a line longer.
-const TABLE: usize = 2496;
+const TABLE: usize = NUMBERS + sheet::ROW;
 
-const BYTES: usize = 20_280;
+const BYTES: usize = (answer::MOST_ROWS + 1) * sheet::LINE;
 
 // Reads a sheet into the table and writes the rows that were read into the bytes.
 fn again(sheet: &[u8], table: &mut [u32], bytes: &mut [u8]) -> Answer
@@ -137,8 +137,8 @@ fn run_tables() {
     write_zeros(7, 0, 0, 0, BYTES);
     write_zeros(8, 0, 0, 0, 65);
     write_zeros(9, 0, 0, 0, BYTES);
-    write_zeros(NUMBERS, 0, 0, 0, 20_215);
-    write_zeros(NUMBERS, 0, 0, 0, 20_214);
+    write_zeros(NUMBERS, 0, 0, 0, BYTES - 65);
+    write_zeros(NUMBERS, 0, 0, 0, BYTES - 66);
     write_zeros(TABLE, 0, 0, 0, BYTES);
     write_zeros(80, 79, 79, 99_999_999, 650);
     write_zeros(80, 79, 79, 100_000_000, 649);
