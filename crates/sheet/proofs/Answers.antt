@@ -1,5 +1,5 @@
 -- What reading and writing answer, and what they leave, case by case in the order of their tests. Assumes nothing.
-use mathlib.Core.Path.{_≡_, refl, sym}
+use mathlib.Core.Path.{_≡_, refl, sym, ap, _∙_}
 use mathlib.Core.Bool.{false}
 use mathlib.Core.List.{List}
 use Prim.Native.Nat.{ℕ, _*_, _<_, _≤_}
@@ -7,7 +7,9 @@ use lib.Dec.{eqb, ltb, lit<}
 use lib.ListN.{length}
 use native.Mathlib.Omega.{arith}
 use borrow.Author.Tests.{eq-eqb, ne-eqb, lt-ltb, le-ltb, eqb-false, ltb-false}
-use Rattle.answer.specs.Told.{Told, counted, refusal, accepts, sheet-length, misprint, out-of-range, lent-space-short}
+use Rattle.answer.specs.declared.Answer.{Answer}
+use Rattle.answer.specs.declared.Answer.the-variants.{Count, Refused}
+use Rattle.answer.specs.Told.{Told, told, counted, refusal, accepts, sheet-length, misprint, out-of-range, lent-space-short}
 use Rattle.answer.specs.First.{first}
 use Rattle.answer.specs.Length.{rowsIn, mostRows}
 use Rattle.answer.proofs.Refusals.{passed, kept}
@@ -132,6 +134,16 @@ accepted-count sheet table z =
     let readable = accepted-readable sheet (length table) z in
     let answer = readable-accepted sheet table (rowsIn 65 (length sheet)) (readable .0) (readable .1) .0 in
     rw (← answer) readable
+
+-- For whoever takes apart what reading answered: a refusal is none of an accepted sheet's, and a count is that sheet's.
+module _ (sheet table : List ℕ) {answer : Answer} (read : told answer ≡ reading sheet (length table)) where
+  pub read-refused : {number row column : ℕ} → answer ≡ Refused number row column → accepts (reading sheet (length table)) ≡ false
+  read-refused e =
+      ne-eqb (reading sheet (length table) .number) 0
+      (λ accepted. omega (arith, ap (λ (a : Told). a .count) (sym (ap told e) ∙ read), accepted-count sheet table accepted .0 .some))
+
+  pub read-accepted : {rows : ℕ} → answer ≡ Count rows → reading sheet (length table) ≡ counted rows
+  read-accepted e = sym read ∙ ap told e
 
 pub accepted-writable : (table : List ℕ) (lent : ℕ) → writing table lent .number ≡ 0
     → Writable table (rowsIn 8 (length table)) × (65 * rowsIn 8 (length table) ≤ lent)

@@ -7,33 +7,29 @@ use native.Mathlib.Nat.{sub-zero}
 use native.Mathlib.Omega.{arith}
 use lib.Dec.{eqb, ltb}
 use lib.ListN.{length, take}
-use borrow.Author.Tests.{eq-eqb, ne-eqb, eqb-false, ltb-true, ltb-false}
+use borrow.Author.Tests.{eq-eqb, eqb-false, ltb-true, ltb-false}
 use Rattle.answer.specs.Told.{Told, told, counted, refusal, accepts, lent-space-short}
 use Rattle.answer.specs.declared.Answer.{Answer}
 use Rattle.answer.specs.declared.Answer.the-variants.{Count, Refused}
 use Rattle.sheet.specs.Sheet.{reading, afterReading, writing, afterWriting}
-use Rattle.sheet.proofs.Answers.{accepted-count}
+use Rattle.sheet.proofs.Answers.{accepted-count, read-refused, read-accepted}
 use Rattle.sheet.proofs.RoundTrip.{rowsRead, read-then-write, read-then-short}
 use Rattle.sheets.specs.Again.{again, afterAgain}
 
 module _ (sheet table : List ℕ) {answer : Answer} (read : told answer ≡ reading sheet (length table)) where
-  -- An answer that is accepted counts some rows, so it is no refusal.
-  refused : {number row column : ℕ} → answer ≡ Refused number row column → accepts (reading sheet (length table)) ≡ false
-  refused e = ne-eqb (reading sheet (length table) .number) 0 (λ accepted.
-      let none : 0 ≡ reading sheet (length table) .count = ap (λ (a : Told). a .count) (sym (ap told e) ∙ read) in
-      omega (arith, accepted-count sheet table accepted .0 .some))
-
   pub again-refused : (bytes : List ℕ) {number row column : ℕ} → answer ≡ Refused number row column
       → (refusal number row column ≡ again sheet (length table) (length bytes)) × (bytes ≡ afterAgain sheet (length table) bytes)
   unfolding again afterAgain
-  again-refused bytes e = (rw (refused e) (sym (ap told e) ∙ read), rw (refused e, refused e))
+  again-refused bytes e =
+      let refused = read-refused sheet table read e in
+      (rw refused (sym (ap told e) ∙ read), rw (refused, refused))
 
   module _ {rows : ℕ} (count : answer ≡ Count rows) where
     accepted : reading sheet (length table) .number ≡ 0
-    accepted = ap (λ (a : Told). a .number) (sym read ∙ ap told count)
+    accepted = ap (λ (a : Told). a .number) (read-accepted sheet table read count)
 
     so-many : reading sheet (length table) .count ≡ rows
-    so-many = ap (λ (a : Told). a .count) (sym read ∙ ap told count)
+    so-many = ap (λ (a : Told). a .count) (read-accepted sheet table read count)
 
     -- The rows that were read are within the table.
     pub again-rows : 8 * rows ≤ length table
