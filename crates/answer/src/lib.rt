@@ -1,8 +1,8 @@
 // What every operation on lent storage answers: a count, or a refusal with its place.
 //
-// The first layer: it uses nothing, and every other builds on it. The definition `told` (specs/Told.antt) gives
-// document 01's number and values for each case, and every promise about an answer uses it. The
-// rule of refusal 1 stands here too, since reading, writing and scoring share it.
+// The first layer: it uses nothing, and every other builds on it. The definition `told`
+// (specs/Told.antt) gives document 01's number and values for each case, and every promise about an
+// answer uses it. The rule of refusal 1 stands here too, since reading, writing and scoring share it.
 ghost use mathlib.Core.Path.{_≡_};
 ghost use Rattle.answer.specs.Length.{rowsIn};
 

@@ -12,7 +12,7 @@ ghost use Rattle.sheets.specs.Again.{again, afterAgain};
 
 // The numbers of the longest sheet.
 const NUMBERS: usize = answer::MOST_ROWS * sheet::ROW;
-// The numbers and the bytes of a sheet that is a line longer.
+// The numbers of a sheet that is a line longer, and its bytes.
 const TABLE: usize = NUMBERS + sheet::ROW;
 
 const BYTES: usize = (answer::MOST_ROWS + 1) * sheet::LINE;
