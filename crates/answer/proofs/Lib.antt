@@ -1,4 +1,4 @@
--- The laws about answers that the crates above cite.
+-- The laws about answers that other crates cite.
 pub mod Refusals
 pub mod Places
 pub mod Lengths

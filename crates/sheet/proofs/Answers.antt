@@ -11,24 +11,20 @@ use Rattle.answer.specs.declared.Answer.{Answer}
 use Rattle.answer.specs.declared.Answer.the-variants.{Count, Refused}
 use Rattle.answer.specs.Told.{Told, told, counted, refusal, accepts, sheet-length, misprint, out-of-range, lent-space-short}
 use Rattle.answer.specs.First.{first}
-use Rattle.answer.specs.Length.{rowsIn, mostRows}
+use Rattle.answer.specs.Length.{rowsIn}
 use Rattle.answer.proofs.Refusals.{passed, kept}
 use Rattle.answer.proofs.Places.{first-none, before-first}
-use Rattle.answer.proofs.Lengths.{rows-whole, rows-counted}
+use Rattle.answer.proofs.Lengths.{Whole, rows-whole, rows-counted}
 use Rattle.sheet.specs.Sheet.{refusalAt, over, misprinted, numbersOf, reading, afterReading, tooLarge, linesOf, writing, afterWriting}
 
 -- A sheet of so many lines that can be read: whole lines, not too many, nothing misprinted.
 pub record Readable (sheet : List ℕ) (lines : ℕ) : Type 0 where
-  pub some : 0 < lines
-  pub most : lines ≤ mostRows
-  pub whole : 65 * lines ≡ length sheet
+  pub lengths : Whole 65 (length sheet) lines
   pub right : (place : ℕ) → place < 9 * lines → misprinted sheet place ≡ false
 
 -- A table of so many rows that can be written: whole rows, not too many, no number too large.
 pub record Writable (table : List ℕ) (rows : ℕ) : Type 0 where
-  pub some : 0 < rows
-  pub most : rows ≤ mostRows
-  pub whole : 8 * rows ≡ length table
+  pub lengths : Whole 8 (length table) rows
   pub right : (place : ℕ) → place < length table → tooLarge table place ≡ false
 
 module _ (sheet table : List ℕ) {lines : ℕ} (so-many : lines ≡ rowsIn 65 (length sheet)) where
@@ -109,12 +105,9 @@ accepted-readable sheet lent z =
     let second = passed (eqb lines 0) (refusal sheet-length 0 0) _ refl z in
     let third = passed (ltb lent (8 * lines)) (refusal lent-space-short 0 0) _ refl (second .1) in
     let last = passed (ltb at (9 * lines)) (refusalAt misprint 9 at) _ refl (third .1) in
-    let lengths = rows-whole 65 (length sheet) {rows = lines} refl (eqb-false lines 0 (second .0)) in
     let searched : 9 * lines ≤ at = ltb-false at (9 * lines) (last .0) in
     let readable : Readable sheet lines = record {
-      some = lengths .some;
-      most = lengths .most;
-      whole = lengths .whole;
+      lengths = rows-whole 65 (length sheet) {rows = lines} refl (eqb-false lines 0 (second .0));
       right = λ place h. before-first (misprinted sheet) (9 * lines) place (omega arith);
     } in
     (readable, ltb-false lent (8 * lines) (third .0))
@@ -123,9 +116,9 @@ module _ (sheet table : List ℕ) (lines : ℕ) (readable : Readable sheet lines
   pub readable-accepted : 8 * lines ≤ length table
       → (counted lines ≡ reading sheet (length table)) × (over table (numbersOf (8 * lines) sheet) ≡ afterReading sheet table)
   readable-accepted room =
-      let so-many : lines ≡ rowsIn 65 (length sheet) = rows-counted 65 (readable .whole) (lit< tt) (readable .most) in
+      let so-many : lines ≡ rowsIn 65 (length sheet) = rows-counted 65 (readable .lengths .whole) (lit< tt) (readable .lengths .most) in
       let found : 9 * lines ≡ first (misprinted sheet) (9 * lines) = sym (first-none (misprinted sheet) (9 * lines) (readable .right)) in
-      reading-accepted sheet table so-many (λ z. omega (arith, readable .some)) room found (omega arith)
+      reading-accepted sheet table so-many (λ z. omega (arith, readable .lengths .some)) room found (omega arith)
 
 -- What an accepted sheet's count says.
 pub accepted-count : (sheet table : List ℕ) → reading sheet (length table) .number ≡ 0
@@ -140,7 +133,7 @@ module _ (sheet table : List ℕ) {answer : Answer} (read : told answer ≡ read
   pub read-refused : {number row column : ℕ} → answer ≡ Refused number row column → accepts (reading sheet (length table)) ≡ false
   read-refused e =
       ne-eqb (reading sheet (length table) .number) 0
-      (λ accepted. omega (arith, ap (λ (a : Told). a .count) (sym (ap told e) ∙ read), accepted-count sheet table accepted .0 .some))
+      (λ accepted. omega (arith, ap (λ (a : Told). a .count) (sym (ap told e) ∙ read), accepted-count sheet table accepted .0 .lengths .some))
 
   pub read-accepted : {rows : ℕ} → answer ≡ Count rows → reading sheet (length table) ≡ counted rows
   read-accepted e = sym read ∙ ap told e
@@ -154,27 +147,24 @@ accepted-writable table lent z =
     let second = passed (eqb rows 0) (refusal sheet-length 0 0) _ refl z in
     let third = passed (ltb at (length table)) (refusalAt out-of-range 8 at) _ refl (second .1) in
     let last = passed (ltb lent (65 * rows)) (refusal lent-space-short 0 0) _ refl (third .1) in
-    let lengths = rows-whole 8 (length table) {rows = rows} refl (eqb-false rows 0 (second .0)) in
     let searched : length table ≤ at = ltb-false at (length table) (third .0) in
     let writable : Writable table rows = record {
-      some = lengths .some;
-      most = lengths .most;
-      whole = lengths .whole;
+      lengths = rows-whole 8 (length table) {rows = rows} refl (eqb-false rows 0 (second .0));
       right = λ place h. before-first (tooLarge table) (length table) place (omega arith);
     } in
     (writable, ltb-false lent (65 * rows) (last .0))
 
 module _ (table sheet : List ℕ) (rows : ℕ) (writable : Writable table rows) where
   so-many-rows : rows ≡ rowsIn 8 (length table)
-  so-many-rows = rows-counted 8 (writable .whole) (lit< tt) (writable .most)
+  so-many-rows = rows-counted 8 (writable .lengths .whole) (lit< tt) (writable .lengths .most)
 
   none-large : length table ≡ first (tooLarge table) (length table)
   none-large = sym (first-none (tooLarge table) (length table) (writable .right))
 
   pub writable-accepted : 65 * rows ≤ length sheet
       → (counted (65 * rows) ≡ writing table (length sheet)) × (over sheet (linesOf rows table) ≡ afterWriting table sheet)
-  writable-accepted room = writing-accepted table sheet so-many-rows (λ z. omega (arith, writable .some)) none-large (omega arith) room
+  writable-accepted room = writing-accepted table sheet so-many-rows (λ z. omega (arith, writable .lengths .some)) none-large (omega arith) room
 
   pub writable-short : length sheet < 65 * rows
       → (refusal lent-space-short 0 0 ≡ writing table (length sheet)) × (sheet ≡ afterWriting table sheet)
-  writable-short short = writing-short table sheet so-many-rows (λ z. omega (arith, writable .some)) none-large (omega arith) short
+  writable-short short = writing-short table sheet so-many-rows (λ z. omega (arith, writable .lengths .some)) none-large (omega arith) short

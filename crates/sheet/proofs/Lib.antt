@@ -1,4 +1,4 @@
--- The laws about fields, lines and sheets, and the round-trip theorems, for the crates above too.
+-- The laws about fields, lines and sheets, and the round-trip theorems, for other crates too.
 pub mod Fields
 pub mod Lists
 pub mod Sheets

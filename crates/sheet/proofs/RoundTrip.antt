@@ -64,7 +64,7 @@ module _ (sheet : List ℕ) (lines : ℕ) (readable : Readable sheet lines) wher
       ∙ rw (row, column)
 
   line-long : (i : ℕ) → i < lines → length (part 65 i sheet) ≡ 65
-  line-long i hi = part-length 65 i sheet (omega (arith, readable .whole))
+  line-long i hi = part-length 65 i sheet (omega (arith, readable .lengths .whole))
 
   field-at-long : (i j : ℕ) → i < lines → j < 8 → length (fieldAt sheet i j) ≡ 8
   unfolding fieldAt
@@ -91,7 +91,7 @@ module _ (sheet : List ℕ) (lines : ℕ) (readable : Readable sheet lines) wher
   read-again =
       joined-same (λ i. line (part 8 i (numbersOf (8 * lines) sheet))) (λ i. part 65 i sheet) lines read-line
       ∙ joined-parts 65 lines sheet
-      ∙ take-all (65 * lines) sheet (omega (arith, readable .whole))
+      ∙ take-all (65 * lines) sheet (omega (arith, readable .lengths .whole))
 
   -- What was read can be written.
   read-small : (place : ℕ) → place < 8 * lines → tooLarge (numbersOf (8 * lines) sheet) place ≡ false
@@ -105,9 +105,7 @@ module _ (sheet : List ℕ) (lines : ℕ) (readable : Readable sheet lines) wher
   read-writable : Writable (numbersOf (8 * lines) sheet) lines
   read-writable =
       record {
-        some = readable .some;
-        most = readable .most;
-        whole = sym (numbers-length (8 * lines) sheet);
+        lengths = record { some = readable .lengths .some; most = readable .lengths .most; whole = sym (numbers-length (8 * lines) sheet) };
         right = λ place h. read-small place (omega (arith, numbers-length (8 * lines) sheet));
       }
 
@@ -123,7 +121,7 @@ module _ (table : List ℕ) (rows : ℕ) (writable : Writable table rows) where
   written-field i j hi hj =
       let row = part 8 i table in
       let n = getD table (8 * i + j) 0 in
-      let fits : n ≤ 99999999 = ltb-false 99999999 n (writable .right (8 * i + j) (omega (arith, writable .whole))) in
+      let fits : n ≤ 99999999 = ltb-false 99999999 n (writable .right (8 * i + j) (omega (arith, writable .lengths .whole))) in
       ap (λ (l : List ℕ). field (part 8 j l)) (written-line i hi)
       ∙ ap field (part-append 8 j (joined 8 (fields row)) (10 ∷ []) (omega (arith, fields-length row 8)))
       ∙ ap field (joined-part 8 (fields row) (field-long row) 8 j hj)
@@ -147,8 +145,8 @@ module _ (table : List ℕ) (rows : ℕ) (writable : Writable table rows) where
       let same : 8 * (place / 8) + place % 8 ≡ place = omega arith in
       ap (λ (f : Field). value f ∷ []) (written-field (place / 8) (place % 8) (omega arith) (omega arith))
       ∙ ap (λ (k : ℕ). getD table k 0 ∷ []) same)
-      ∙ joined-elements (8 * rows) table (omega (arith, writable .whole))
-      ∙ take-all (8 * rows) table (omega (arith, writable .whole))
+      ∙ joined-elements (8 * rows) table (omega (arith, writable .lengths .whole))
+      ∙ take-all (8 * rows) table (omega (arith, writable .lengths .whole))
 
   -- What was written can be read.
   written-right : (place : ℕ) → place < 9 * rows → misprinted (linesOf rows table) place ≡ false
@@ -167,9 +165,7 @@ module _ (table : List ℕ) (rows : ℕ) (writable : Writable table rows) where
   written-readable : Readable (linesOf rows table) rows
   written-readable =
       record {
-        some = writable .some;
-        most = writable .most;
-        whole = sym (lines-length rows table);
+        lengths = record { some = writable .lengths .some; most = writable .lengths .most; whole = sym (lines-length rows table) };
         right = written-right;
       }
 
@@ -228,9 +224,9 @@ module _ (sheet table bytes : List ℕ) (accepted : reading sheet (length table)
       let lines = rowsIn 65 (length sheet) in
       let readable = accepted-readable sheet (length table) accepted .0 in
       let numbers = numbersOf (8 * lines) sheet in
-      let written = writable-accepted numbers bytes lines (read-writable sheet lines readable) (omega (arith, readable .whole)) in
+      let written = writable-accepted numbers bytes lines (read-writable sheet lines readable) (omega (arith, readable .lengths .whole)) in
       rw (rows-read sheet table accepted) (
-        sym (written .0) ∙ ap counted (readable .whole),
+        sym (written .0) ∙ ap counted (readable .lengths .whole),
         sym (written .1) ∙ ap (λ (l : List ℕ). l ++ drop (length l) bytes) (read-again sheet lines readable),
       )
 
@@ -241,7 +237,7 @@ module _ (sheet table bytes : List ℕ) (accepted : reading sheet (length table)
       let lines = rowsIn 65 (length sheet) in
       let readable = accepted-readable sheet (length table) accepted .0 in
       let numbers = numbersOf (8 * lines) sheet in
-      let refused = writable-short numbers bytes lines (read-writable sheet lines readable) (omega (arith, readable .whole)) in
+      let refused = writable-short numbers bytes lines (read-writable sheet lines readable) (omega (arith, readable .lengths .whole)) in
       rw (rows-read sheet table accepted) (sym (refused .0), sym (refused .1))
 
 -- A table that is written and read again is the same table, number for number.
@@ -253,8 +249,8 @@ write-then-read table sheet numbers accepted room =
     let rows = rowsIn 8 (length table) in
     let writable = accepted-writable table (length sheet) accepted .0 in
     let bytes = linesOf rows table in
-    let read = readable-accepted bytes numbers rows (written-readable table rows writable) (omega (arith, writable .whole)) in
-    let whole : rows ≡ length table / 8 = omega (arith, writable .whole) in
+    let read = readable-accepted bytes numbers rows (written-readable table rows writable) (omega (arith, writable .lengths .whole)) in
+    let whole : rows ≡ length table / 8 = omega (arith, writable .lengths .whole) in
     rw (bytes-written table sheet accepted) (
       sym (read .0) ∙ ap counted whole,
       sym (read .1) ∙ ap (λ (l : List ℕ). l ++ drop (length l) numbers) (written-again table rows writable),

@@ -1,4 +1,4 @@
--- The laws of lines and sheets: a place's judgement and its number, a line's fields, and what each answer says. Assumes nothing.
+-- The laws of lines and sheets: a place's judgement, the numbers read and the lines printed one after the other. Assumes nothing.
 use mathlib.Core.Path.{_≡_, refl, sym, ap, _∙_}
 use mathlib.Core.Bool.{not}
 use mathlib.Core.List.{List, [], _∷_}

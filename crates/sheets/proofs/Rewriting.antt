@@ -18,11 +18,11 @@ use Rattle.sheets.specs.Again.{again, afterAgain}
 
 module _ (sheet table : List ℕ) {answer : Answer} (read : told answer ≡ reading sheet (length table)) where
   pub again-refused : (bytes : List ℕ) {number row column : ℕ} → answer ≡ Refused number row column
-      → (refusal number row column ≡ again sheet (length table) (length bytes)) × (bytes ≡ afterAgain sheet (length table) bytes)
+      → (told answer ≡ again sheet (length table) (length bytes)) × (bytes ≡ afterAgain sheet (length table) bytes)
   unfolding again afterAgain
   again-refused bytes e =
       let refused = read-refused sheet table read e in
-      (rw refused (sym (ap told e) ∙ read), rw (refused, refused))
+      (rw refused read, rw (refused, refused))
 
   module _ {rows : ℕ} (count : answer ≡ Count rows) where
     accepted : reading sheet (length table) .number ≡ 0

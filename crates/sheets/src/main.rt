@@ -24,15 +24,7 @@ fn again(sheet: &[u8], table: &mut [u32], bytes: &mut [u8]) -> Answer
 {
     let read = sheet::read(sheet, table);
     match read {
-        Answer::Refused {
-            number,
-            row,
-            column,
-        } => Answer::Refused {
-            number,
-            row,
-            column,
-        },
+        Answer::Refused { .. } => read,
         Answer::Count(rows) => {
             let end = sheet::ROW * (rows as usize);
             sheet::write(&table[0..end], bytes)

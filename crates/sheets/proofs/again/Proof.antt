@@ -1,10 +1,10 @@
 -- `sheets::again` meets its contract, by the round trip. Assumes nothing.
+use mathlib.Core.Path.{ap, _∙_}
 use mathlib.Core.List.{List}
 use Prim.Native.Nat.{ℕ, _*_, _-_}
 use lib.ListN.{length, take}
 use denote.Ref.{now}
 use Rattle.sheet.specs.Sheet.{writing, afterWriting}
-use mathlib.Core.Path.{ap, _∙_}
 use Rattle.sheets.proofs.Rewriting.{again-refused, again-rows, again-written}
 use borrow.Author.Needs.{needs}
 use Rattle.sheets.proofs.again.Statement.{statement}
@@ -13,11 +13,11 @@ use Rattle.sheets.proofs.again.Tie as tie
 read-requires : tie.Need-read-requires
 read-requires c κs = search needs
 
+enum-told : tie.Need-enum-told
+enum-told c = search needs
+
 enum-known-read : tie.Need-enum-known-read
 enum-known-read c = search needs
-
-enum-known-read-2 : tie.Need-enum-known-read-2
-enum-known-read-2 c = search needs
 
 cast-end : tie.Need-cast-end
 cast-end c = search needs
@@ -36,7 +36,7 @@ part-write-end c =
     let at-read = c .before .before .before .before .before .before in
     let args = at-read .before .before .before .before .before .args in
     rw (at-read .read .kept .1 .0)
-    (again-rows (now (args .sheet)) (now (args .table)) (at-read .read .ensures .0) (c .before .before .read3 .given .1))
+    (again-rows (now (args .sheet)) (now (args .table)) (at-read .read .ensures .0) (c .before .before .read2 .given .1))
 
 write-requires : tie.Need-write-requires
 write-requires c κs = search needs
@@ -46,9 +46,9 @@ same-length c = search needs
 
 returns : tie.Need-returns
 returns c =
-    let at-read = c .before .before .before .before .before in
+    let at-read = c .before .before .before .before in
     let args = at-read .before .before .before .before .before .args in
-    again-refused (now (args .sheet)) (now (args .table)) (at-read .read .ensures .0) (now (args .bytes)) (c .before .read2 .given .1)
+    again-refused (now (args .sheet)) (now (args .table)) (at-read .read .ensures .0) (now (args .bytes)) (c .enum-told .given .1)
 
 same-length-2 : tie.Need-same-length-2
 same-length-2 c = search needs
@@ -61,10 +61,10 @@ returns-2 c =
     let at-read = c .before .before .before .before .before .before .before .before .before .before .before in
     let at-count = c .before .before .before .before .before .before .before in
     let args = at-read .before .before .before .before .before .args in
-    let rows = at-count .read3 .given .0 .0 in
+    let rows = at-count .read2 .given .0 .0 in
     let bytes = now (args .bytes) in
     let written = c .before .before .write .ensures in
-    again-written (now (args .sheet)) (now (args .table)) (at-read .read .ensures .0) (at-count .read3 .given .1) bytes
+    again-written (now (args .sheet)) (now (args .table)) (at-read .read .ensures .0) (at-count .read2 .given .1) bytes
     (written .0 ∙ ap (λ (l : List ℕ). writing (take (8 * rows - 0) l) (length bytes)) (at-read .read .ensures .1))
     (written .1 ∙ ap (λ (l : List ℕ). afterWriting (take (8 * rows - 0) l) bytes) (at-read .read .ensures .1))
 
@@ -73,8 +73,8 @@ again-spec =
     tie.close
     (tie.spec
     read-requires
+    enum-told
     enum-known-read
-    enum-known-read-2
     cast-end
     mul-end
     sub-write
