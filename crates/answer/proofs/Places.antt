@@ -1,7 +1,7 @@
 -- The laws of `first`: which place it is, and what it says of the places before it. Assumes nothing.
 use mathlib.Core.Path.{_≡_, refl, sym, ap, _∙_}
 use mathlib.Core.Bool.{Bool, true, false, cond}
-use Prim.Native.Nat.{ℕ, zero, suc, _<_, _≤_, suc-le-suc}
+use Prim.Native.Nat.{ℕ, zero, suc, _<_, _≤_, zero-le, suc-le-suc}
 use native.Mathlib.Nat.{le-of-suc-le-suc, not-suc-le-zero, zero-lt-suc}
 use native.Mathlib.Omega.{arith}
 use Rattle.answer.specs.First.{first}
@@ -39,3 +39,24 @@ before-first test (suc n) k h = go (test 0) refl (before-first (λ i. test (suc 
     go true e later k h = absurd (not-suc-le-zero h)
     go false e later zero h = e
     go false e later (suc k) h = later k (le-of-suc-le-suc h)
+
+-- The first place is one of them, or their count.
+pub first-most : (test : ℕ → Bool) (n : ℕ) → first test n ≤ n
+unfolding first
+first-most test zero = zero-le
+first-most test (suc n) = go (test 0) (first-most (λ i. test (suc i)) n)
+  where
+    go : (b : Bool) → first (λ i. test (suc i)) n ≤ n → cond b 0 (suc (first (λ i. test (suc i)) n)) ≤ suc n
+    go true h = zero-le
+    go false h = suc-le-suc h
+
+-- At the first place the test holds.
+pub at-first : (test : ℕ → Bool) (n : ℕ) → first test n < n → test (first test n) ≡ true
+unfolding first
+at-first test zero h = absurd (not-suc-le-zero h)
+at-first test (suc n) h = go (test 0) refl (at-first (λ i. test (suc i)) n) h
+  where
+    go : (b : Bool) → test 0 ≡ b → (first (λ i. test (suc i)) n < n → test (suc (first (λ i. test (suc i)) n)) ≡ true)
+        → cond b 0 (suc (first (λ i. test (suc i)) n)) < suc n → test (cond b 0 (suc (first (λ i. test (suc i)) n))) ≡ true
+    go true e later h = e
+    go false e later h = later (le-of-suc-le-suc h)

@@ -35,6 +35,9 @@ pub const NO_PARTS: u32 = 8;
 // Lent space short.
 pub const LENT_SPACE_SHORT: u32 = 9;
 
+// A table's numbers to a row.
+pub const ROW: usize = 8;
+
 // The most lines of a sheet, and the most rows of a table.
 pub const MOST_ROWS: usize = 311;
 

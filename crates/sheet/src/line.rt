@@ -7,7 +7,7 @@ ghost use Rattle.sheet.specs.Line.{line};
 // A line's bytes: eight fields of 8 characters, then byte 10.
 pub const LINE: usize = 65;
 // A row's numbers, a line's fields, and a field's characters.
-pub const ROW: usize = 8;
+pub const ROW: usize = answer::ROW;
 
 // Prints eight numbers over the 65 bytes of a line.
 pub(crate) fn print_row(row: &[u32], bytes: &mut [u8])

@@ -1,0 +1,188 @@
+-- Acceptance: what a table that is refused on no ground is made of. Assumes nothing.
+use mathlib.Core.Path.{_≡_, refl, sym, ap, subst, _∙_}
+use mathlib.Core.Bool.{Bool, true, false, cond, not}
+use mathlib.Core.List.{List}
+use Prim.Native.Nat.{ℕ, _+_, _-_, _*_, _<_, _≤_}
+use native.Mathlib.Decide.{decLt}
+use native.Mathlib.Omega.{arith}
+use lib.Dec.{eqb, leb, ltb}
+use lib.ListN.{length}
+use borrow.Author.Tests.{ltb-true, ltb-false, leb-false, eqb-false, ne-eqb, le-ltb, not-false}
+use Rattle.answer.specs.declared.Answer.{Answer}
+use Rattle.answer.specs.declared.Answer.the-variants.{Count, Refused}
+use Rattle.answer.specs.Told.{Told, told, counted, refusal, sheet-length, row-out-of-order, mark-on-absent-part}
+use Rattle.answer.specs.First.{first}
+use Rattle.answer.specs.Length.{rowsIn}
+use Rattle.answer.proofs.Refusals.{passed}
+use Rattle.answer.proofs.Places.{before-first, at-first, first-most}
+use Rattle.answer.proofs.Lengths.{Whole, rows-whole}
+use Rattle.survey.specs.Table.{cell, storeys, endsStorey, firstWall, wallRows, partsRow}
+use Rattle.survey.specs.Ranges.{house, storey, ends, wall, parts}
+use Rattle.survey.specs.Judgement.{fault, faulty, test, _then_, columns, houseFault, storeyFault, endsFault, storeyBefore, mostWalls, wallFault, within, partsFault, rowFault, judging}
+use Rattle.survey.proofs.Cases.{row-house, row-storey, row-ends, row-wall, row-parts, row-after}
+use Rattle.survey.proofs.Judged.{judging-accepted}
+use Rattle.survey.proofs.Inside.{Clean, Inside, then-clean, test-clean, columns-inside, house-storeys}
+
+-- What an accepted table is made of.
+pub record Accepted (table : List ℕ) : Type 0 where
+  -- The parts row is the last.
+  pub sizes : Whole 8 (length table) (partsRow table + 1)
+  pub house-inside : Inside (house table) table 0
+  pub storey-inside : (row : ℕ) → 0 < row → row ≤ storeys table → Inside (storey row) table row
+  pub ends-inside : (row : ℕ) → storeys table < row → row < firstWall table → Inside (ends table row) table row
+  pub ends-fit : (row : ℕ) → storeys table < row → row < firstWall table → cell table row 3 + cell table row 4 ≤ cell table (endsStorey table row) 2
+  pub wall-inside : (row : ℕ) → firstWall table ≤ row → row < partsRow table → Inside (wall table row) table row
+  pub sorted : (row : ℕ) → firstWall table ≤ row → row + 1 < partsRow table → cell table row 1 ≤ cell table (row + 1) 1
+  pub few : wallRows table ≤ mostWalls
+  pub parts-inside : Inside parts table (partsRow table)
+  pub marks-present : within (cell table (partsRow table) 2) (cell table (partsRow table) 1) ≡ true
+  pub some-present : 0 < cell table (partsRow table) 1
+
+-- Every row is without a fault, and the parts row is among them.
+record Faultless (table : List ℕ) (rows : ℕ) : Type 0 where
+  size : Whole 8 (length table) rows
+  clean : (row : ℕ) → row < rows → Clean (rowFault table row)
+  reaches : partsRow table < rows
+
+faultless : (table : List ℕ) → (judging table) .number ≡ 0 → Faultless table (rowsIn 8 (length table))
+unfolding judging
+faultless table h = go (ltb row rows) refl (some .1)
+  where
+    rows : ℕ
+    rows = rowsIn 8 (length table)
+
+    row : ℕ
+    row = first (λ i. faulty (rowFault table i)) rows
+
+    rest : Told
+    rest = cond (leb rows (partsRow table)) (refusal row-out-of-order (rows + 1) 1) (counted rows)
+
+    some : (eqb rows 0 ≡ false) × ((cond (ltb row rows) (refusal (rowFault table row .number) (row + 1) (rowFault table row .column)) rest) .number ≡ 0)
+    some = passed (eqb rows 0) (refusal sheet-length 0 0) _ refl h
+
+    go : (b : Bool) → ltb row rows ≡ b → (cond b (refusal (rowFault table row .number) (row + 1) (rowFault table row .column)) rest) .number ≡ 0
+        → Faultless table rows
+    go true e z = absurd (omega (arith, z, ltb-true 0 (rowFault table row .number) (at-first (λ i. faulty (rowFault table i)) rows (ltb-true row rows e))))
+    go false e z = record {
+      size = rows-whole 8 (length table) refl (eqb-false rows 0 (some .0));
+      clean = λ k l. ltb-false 0 (rowFault table k .number) (before-first (λ i. faulty (rowFault table i)) rows k (omega (arith, ltb-false row rows e)));
+      reaches = leb-false rows (partsRow table) (passed (leb rows (partsRow table)) (refusal row-out-of-order (rows + 1) 1) (counted rows) refl z .0);
+    }
+
+module _ (table : List ℕ) (h : (judging table) .number ≡ 0) where
+  abbrev rows : ℕ
+  rows = rowsIn 8 (length table)
+
+  right : Faultless table rows
+  right = faultless table h
+
+  storeys-few : (1 ≤ storeys table) × (storeys table ≤ 3)
+  storeys-few = house-storeys table (rw (row-house table) (right .clean 0 (right .size .some)))
+
+  -- No row is due after the parts row.
+  last : rows ≡ partsRow table + 1
+  last = go (decLt (partsRow table + 1) rows)
+    where
+      go : Dec (partsRow table + 1 < rows) → rows ≡ partsRow table + 1
+      go (yes l) =
+          let after = row-after table (partsRow table + 1) (omega arith) (omega arith) (omega arith) (omega arith) in
+          absurd (omega (arith, rw (← after) at (right .clean (partsRow table + 1) l)))
+      go (no l) = omega (arith, right .reaches)
+
+  storey-clean : (row : ℕ) → 0 < row → row ≤ storeys table → Clean (storeyFault table row)
+  storey-clean row some most = rw (row-storey table row some most) (right .clean row (omega (arith, right .reaches)))
+
+  ends-clean : (row : ℕ) → storeys table < row → row < firstWall table → Clean (endsFault table row)
+  ends-clean row above before = rw (row-ends table row (omega arith) above before) (right .clean row (omega (arith, right .reaches)))
+
+  wall-clean : (row : ℕ) → firstWall table ≤ row → row < partsRow table → Clean (wallFault table row)
+  wall-clean row past before = rw (row-wall table row (omega arith) (omega arith) past before) (right .clean row (omega (arith, right .reaches)))
+
+  parts-clean : Clean (partsFault table (partsRow table))
+  parts-clean = rw (row-parts table (partsRow table) (omega arith) (omega arith) (omega arith) refl) (right .clean (partsRow table) (right .reaches))
+
+  -- A wall row's three tests.
+  wall-tests : (row : ℕ) → firstWall table ≤ row → row < partsRow table
+      → (ltb (cell table row 1) (storeyBefore table row) ≡ false) × Inside (wall table row) table row × (row < firstWall table + mostWalls)
+  unfolding wallFault
+  wall-tests row past before =
+      let three = then-clean (test (ltb (cell table row 1) (storeyBefore table row)) (fault row-out-of-order 1)) _ (wall-clean row past before) in
+      let two = then-clean (columns 1 (wall table row) table row) _ (three .1) in
+      let crowded = leb (firstWall table + mostWalls) row in (
+        test-clean (ltb (cell table row 1) (storeyBefore table row)) _ (omega arith) (three .0),
+        columns-inside 1 (wall table row) table row (two .0),
+        leb-false (firstWall table + mostWalls) row (test-clean crowded _ (omega arith) (two .1)),
+      )
+
+  ends-tests : (row : ℕ) → storeys table < row → row < firstWall table
+      → Inside (ends table row) table row × (cell table row 3 + cell table row 4 ≤ cell table (endsStorey table row) 2)
+  unfolding endsFault
+  ends-tests row above before =
+      let two = then-clean (columns 3 (ends table row) table row) _ (ends-clean row above before) in
+      let exceed = ltb (cell table (endsStorey table row) 2) (cell table row 3 + cell table row 4) in
+      (columns-inside 3 (ends table row) table row (two .0), ltb-false (cell table (endsStorey table row) 2) _ (test-clean exceed _ (omega arith) (two .1)))
+
+  abbrev present : ℕ
+  present = cell table (partsRow table) 1
+
+  abbrev marked : ℕ
+  marked = cell table (partsRow table) 2
+
+  parts-tests : Inside parts table (partsRow table) × (within marked present ≡ true) × (0 < present)
+  unfolding partsFault
+  parts-tests =
+      let three = then-clean (columns 1 parts table (partsRow table)) _ parts-clean in
+      let two = then-clean (test (not (within marked present)) (fault mark-on-absent-part 3)) _ (three .1) in (
+        columns-inside 1 parts table (partsRow table) (three .0),
+        not-false (within marked present) (test-clean (not (within marked present)) _ (omega arith) (two .0)),
+        omega (arith, eqb-false present 0 (test-clean (eqb present 0) _ (omega arith) (two .1))),
+      )
+
+  -- At most 300 walls: the 301st would have a fault.
+  walls-few : wallRows table ≤ mostWalls
+  walls-few = go (decLt mostWalls (wallRows table))
+    where
+      go : Dec (mostWalls < wallRows table) → wallRows table ≤ mostWalls
+      go (yes l) = absurd (omega (arith, wall-tests (firstWall table + mostWalls) (omega arith) (omega arith) .2))
+      go (no l) = omega arith
+
+  storeys-rise : (row : ℕ) → firstWall table ≤ row → row + 1 < partsRow table → cell table row 1 ≤ cell table (row + 1) 1
+  unfolding storeyBefore
+  storeys-rise row past before =
+      let one : row + 1 - 1 ≡ row = omega arith in
+      let rises = ltb-false (cell table (row + 1) 1) _ (wall-tests (row + 1) (omega arith) before .0) in
+      rw (ne-eqb (row + 1) (firstWall table) (λ e. omega arith), one) at rises
+
+  pub accepted : Accepted table
+  unfolding houseFault storeyFault
+  accepted = record {
+    sizes = subst (Whole 8 (length table)) last (right .size);
+    house-inside = columns-inside 1 (house table) table 0 (rw (row-house table) (right .clean 0 (right .size .some)));
+    storey-inside = λ row some most. columns-inside 2 (storey row) table row (storey-clean row some most);
+    ends-inside = λ row above before. ends-tests row above before .0;
+    ends-fit = λ row above before. ends-tests row above before .1;
+    wall-inside = λ row past before. wall-tests row past before .1;
+    sorted = storeys-rise;
+    few = walls-few;
+    parts-inside = parts-tests .0;
+    marks-present = parts-tests .1;
+    some-present = parts-tests .2;
+  }
+
+  -- The answer counts every row.
+  pub accepted-count : judging table ≡ counted (partsRow table + 1)
+  accepted-count =
+      sym (judging-accepted table refl (λ e. omega (arith, right .size)) (λ k l. le-ltb 0 (rowFault table k .number) (right .clean k l)) (right .reaches))
+      ∙ ap counted last
+
+-- The two ways out of judging.
+module _ (table : List ℕ) {answer : Answer} (judged : told answer ≡ judging table) where
+  pub judge-refused : {number row column : ℕ} → answer ≡ Refused number row column → (judging table) .number ≡ 0 → ⊥
+  judge-refused e h =
+      let none : _≡_ {A = ℕ} 0 (partsRow table + 1) = ap (λ (x : Answer). told x .count) (sym e) ∙ ap (λ (x : Told). x .count) (judged ∙ accepted-count table h) in
+      omega arith
+
+  pub judge-accepted : {count : ℕ} → answer ≡ Count count → ((judging table) .number ≡ 0) × (count ≡ partsRow table + 1)
+  judge-accepted {count} e =
+      let h : (judging table) .number ≡ 0 = ap (λ (x : Told). x .number) (sym judged) ∙ ap (λ (x : Answer). told x .number) e in
+      (h, ap (λ (x : Answer). told x .count) (sym e) ∙ ap (λ (x : Told). x .count) (judged ∙ accepted-count table h))

@@ -1,0 +1,7 @@
+pub mod Faults
+pub mod Positions
+pub mod Cases
+pub mod Judged
+pub mod Inside
+pub mod Acceptance
+pub mod Shown

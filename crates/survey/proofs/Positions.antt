@@ -1,0 +1,24 @@
+-- Where rows stand: the row after the walls, and what lies beyond a table. Assumes nothing.
+use mathlib.Core.Path.{_≡_, refl, ap, sym, _∙_}
+use mathlib.Core.Bool.{Bool, true, false, not}
+use mathlib.Core.List.{List}
+use Prim.Native.Nat.{ℕ, _+_, _*_, _/_, _<_, _≤_}
+use native.Mathlib.Omega.{arith}
+use lib.ListN.{length, List·getD-eq-default}
+use Rattle.answer.proofs.Places.{first-is}
+use Rattle.survey.specs.Table.{cell, isWall, firstWall, wallRows, partsRow}
+
+-- Beyond a table every number is 0, and no row is a wall.
+pub beyond : (table : List ℕ) (row column : ℕ) → length table ≤ 8 * row → cell table row column ≡ 0
+beyond table row column h = List·getD-eq-default table 0 {n = 8 * row + column} (omega arith)
+
+pub no-wall-beyond : (table : List ℕ) (row : ℕ) → length table ≤ 8 * row → not (isWall table row) ≡ true
+no-wall-beyond table row h = rw (beyond table row 0 h)
+
+-- The first row after the walls before it.
+module _ (table : List ℕ) {first walls : ℕ} (e : first ≡ firstWall table) where
+  pub parts-row-is : walls < length table → ((k : ℕ) → k < walls → not (isWall table (first + k)) ≡ false)
+      → not (isWall table (first + walls)) ≡ true → first + walls ≡ partsRow table
+  unfolding wallRows
+  parts-row-is h before here =
+      ap (λ (n : ℕ). n + walls) e ∙ ap (λ (n : ℕ). firstWall table + n) (sym (first-is _ _ _ h (rw (e) at before) (rw e at here)))

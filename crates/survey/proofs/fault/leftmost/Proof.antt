@@ -1,0 +1,84 @@
+-- `survey::fault::leftmost` meets its contract. The loop's invariant: every column before lies in its range. Assumes nothing.
+use Rattle.survey.proofs.Faults.{too-low, too-high, inside}
+use Rattle.survey.specs.Judgement.{outside, leftmost}
+use Rattle.answer.proofs.Places.{first-is, first-end}
+use borrow.Author.Needs.{needs}
+use borrow.Author.Count.{below-none, below-more}
+use Prim.Native.Nat.{ℕ, _-_, _<_, _≤_}
+use mathlib.Core.Bool.{false}
+use mathlib.Core.Path.{_≡_, sym}
+use Rattle.survey.proofs.fault.leftmost.Statement.{statement}
+use Rattle.survey.proofs.fault.leftmost.Tie as tie
+
+abbrev Inv-loop : tie.InvT-loop
+Inv-loop table row low high column₀ column = (column ≤ 8) × ((k : ℕ) → k < column → outside low high table row k ≡ false)
+
+abbrev μ-loop : tie.MeasureT-loop
+μ-loop table row low high column₀ column = 8 - column
+
+loop-holds : tie.Need-loop-holds Inv-loop μ-loop
+loop-holds c = (search needs, below-none _)
+
+cell-requires : tie.Need-cell-requires Inv-loop μ-loop
+cell-requires c κs = search needs
+
+mul-if1 : tie.Need-mul-if1 Inv-loop μ-loop
+mul-if1 c = search needs
+
+array-read-if1 : tie.Need-array-read-if1 Inv-loop μ-loop
+array-read-if1 c = search needs
+
+returns : tie.Need-returns Inv-loop μ-loop
+unfolding leftmost
+returns c =
+    let at-cell = c .before in
+    sym (first-is _ _ _ (at-cell .before .loop-test .taken) (at-cell .before .before .loop .inv .1) (too-low _ _ _ _ _ (at-cell .cell .ensures) (c .if1 .taken)))
+
+mul-if2 : tie.Need-mul-if2 Inv-loop μ-loop
+mul-if2 c = search needs
+
+array-read-if2 : tie.Need-array-read-if2 Inv-loop μ-loop
+array-read-if2 c = search needs
+
+returns-2 : tie.Need-returns-2 Inv-loop μ-loop
+unfolding leftmost
+returns-2 c =
+    let at-if1 = c .before in
+    let at-cell = at-if1 .before in
+    sym (first-is _ _ _ (at-cell .before .loop-test .taken) (at-cell .before .before .loop .inv .1)
+    (too-high _ _ _ _ _ (at-cell .cell .ensures) (at-if1 .if1 .left) (c .if2 .taken)))
+
+add-column : tie.Need-add-column Inv-loop μ-loop
+add-column c = search needs
+
+loop-less : tie.Need-loop-less Inv-loop μ-loop
+loop-less c = search needs
+
+loop-again : tie.Need-loop-again Inv-loop μ-loop
+loop-again c =
+    let at-if1 = c .before in
+    let at-cell = at-if1 .before in
+    (search needs, below-more _ _ (at-cell .before .before .loop .inv .1) (inside _ _ _ _ _ (at-cell .cell .ensures) (at-if1 .if1 .left) (c .if2 .left)))
+
+returns-3 : tie.Need-returns-3 Inv-loop μ-loop
+unfolding leftmost
+returns-3 c = first-end _ _ _ (c .before .loop .inv .0) (c .loop-test .left) (c .before .loop .inv .1)
+
+pub leftmost-spec : {M : Type 1} → statement M
+leftmost-spec =
+    tie.close
+    (tie.spec
+    Inv-loop
+    μ-loop
+    loop-holds
+    cell-requires
+    mul-if1
+    array-read-if1
+    returns
+    mul-if2
+    array-read-if2
+    returns-2
+    add-column
+    loop-less
+    loop-again
+    returns-3)

@@ -1,0 +1,108 @@
+-- `survey::rows::ends_fault` meets its contract: each return is a test in its order. Assumes nothing.
+use Rattle.survey.specs.Ranges.{ends}
+use denote.Ref.{now}
+use Rattle.survey.proofs.Cases.{ends-columns, ends-exceed, ends-fit}
+use mathlib.Core.Path.{_∙_, _≡_}
+use native.Mathlib.Omega.{arith}
+use borrow.Author.Tests.{lt-ltb, le-ltb}
+use Rattle.survey.proofs.Faults.{found, passed, held, clear}
+use Rattle.survey.specs.Judgement.{endsFault, columns}
+use borrow.Author.Needs.{needs}
+use Rattle.survey.proofs.rows.ends_fault.Statement.{statement}
+use Rattle.survey.proofs.rows.ends_fault.Tie as tie
+
+add-ends : tie.Need-add-ends
+add-ends c = search needs
+
+sub-ends : tie.Need-sub-ends
+sub-ends c = search needs
+
+add-at : tie.Need-add-at
+add-at c = search needs
+
+cast-top : tie.Need-cast-top
+cast-top c = search needs
+
+cast-storey : tie.Need-cast-storey
+cast-storey c = search needs
+
+add-direction : tie.Need-add-direction
+add-direction c = search needs
+
+cast-direction : tie.Need-cast-direction
+cast-direction c = search needs
+
+columns-requires : tie.Need-columns-requires
+columns-requires c κs = search needs
+
+-- The ranges as the code has them are those of the row.
+ranged : (c : tie.After-columns)
+    → let args = c .before .before .args in c .columns .result ≡ columns 3 (ends (now (args .table)) (args .row)) (now (args .table)) (args .row)
+ranged c = rw (← c .before .before .pre .0 .0) (c .columns .ensures)
+
+returns : tie.Need-returns
+returns c = ends-columns _ _ (ranged (c .before .before)) (c .if1 .taken)
+
+cell-requires : tie.Need-cell-requires
+cell-requires c κs = search needs
+
+wide-requires : tie.Need-wide-requires
+wide-requires c κs = search needs
+
+cell-requires-2 : tie.Need-cell-requires-2
+cell-requires-2 c κs = search needs
+
+wide-requires-2 : tie.Need-wide-requires-2
+wide-requires-2 c κs = search needs
+
+cell-requires-3 : tie.Need-cell-requires-3
+cell-requires-3 c κs = search needs
+
+wide-requires-3 : tie.Need-wide-requires-3
+wide-requires-3 c κs = search needs
+
+add-if2 : tie.Need-add-if2
+add-if2 c = search needs
+
+fault-at-requires : tie.Need-fault-at-requires
+fault-at-requires c κs = search needs
+
+returns-2 : tie.Need-returns-2
+returns-2 c =
+    let at-if1 = c .before .before .before .before .before .before .before .before in
+    c .fault-at .ensures ∙ ends-exceed _ _ (ranged (at-if1 .before .before)) (at-if1 .if1 .left)
+    (rw (← at-if1 .before .before .before .before .pre .0 .0) (omega arith))
+
+no-fault-requires : tie.Need-no-fault-requires
+no-fault-requires c κs = search needs
+
+returns-3 : tie.Need-returns-3
+returns-3 c =
+    let at-if1 = c .before .before .before .before .before .before .before .before in
+    c .no-fault .ensures ∙ ends-fit _ _ (ranged (at-if1 .before .before)) (at-if1 .if1 .left)
+    (rw (← at-if1 .before .before .before .before .pre .0 .0) (omega arith))
+
+pub ends-fault-spec : {M : Type 1} → statement M
+ends-fault-spec =
+    tie.close
+    (tie.spec
+    add-ends
+    sub-ends
+    add-at
+    cast-top
+    cast-storey
+    add-direction
+    cast-direction
+    columns-requires
+    returns
+    cell-requires
+    wide-requires
+    cell-requires-2
+    wide-requires-2
+    cell-requires-3
+    wide-requires-3
+    add-if2
+    fault-at-requires
+    returns-2
+    no-fault-requires
+    returns-3)

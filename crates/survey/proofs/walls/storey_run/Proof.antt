@@ -1,0 +1,67 @@
+-- `survey::walls::storey_run` meets its contract. Assumes nothing.
+use Rattle.survey.proofs.Shown.{run-start-most, run-length-most, rows-lent}
+use Rattle.survey.specs.Walls.{storeyRun}
+use lib.ListN.{length}
+use denote.Ref.{now}
+use native.Mathlib.Omega.{arith}
+use Prim.Native.Nat.{_+_, _*_, _/_, _≤_}
+use mathlib.Core.Path.{_≡_, _∙_}
+use borrow.Author.Needs.{needs}
+use Rattle.survey.proofs.walls.storey_run.Statement.{statement}
+use Rattle.survey.proofs.walls.storey_run.Tie as tie
+
+run-start-requires : tie.Need-run-start-requires
+run-start-requires c κs = search needs
+
+-- The run lies in the table.
+start-fits : (c : tie.After-run-start) → c .run-start .result ≤ length (now (c .before .before .args .table)) / 8
+start-fits c = rw (c .run-start .ensures) (run-start-most _ _)
+
+run-length-requires : tie.Need-run-length-requires
+run-length-requires c κs = start-fits c
+
+run-fits : (c : tie.After-run-length)
+    → 8 * c .before .run-start .result + 8 * c .run-length .result ≤ length (now (c .before .before .before .args .table))
+run-fits c = omega (arith, start-fits (c .before), c .run-length .ensures, run-length-most (now (c .before .before .before .args .table)) (c .before .before .before .args .storey) (c .before .run-start .result))
+
+mul-from : tie.Need-mul-from
+mul-from c = omega (arith, run-fits c)
+
+mul-to : tie.Need-mul-to
+mul-to c = omega (arith, run-fits c)
+
+add-to : tie.Need-add-to
+add-to c = omega (arith, run-fits c)
+
+mul-result : tie.Need-mul-result
+mul-result c = omega (arith, run-fits c)
+
+sub-result : tie.Need-sub-result
+sub-result c = search needs
+
+part-result-start : tie.Need-part-result-start
+part-result-start c = search needs
+
+part-result-end : tie.Need-part-result-end
+part-result-end c = run-fits c
+
+returns : tie.Need-returns
+unfolding storeyRun
+returns c =
+    let at-start = c .before .before in
+    rw (← at-start .run-start .ensures, ← c .before .run-length .ensures) (rows-lent _ (at-start .run-start .result) (c .before .run-length .result))
+
+pub storey-run-spec : {M : Type 1} → statement M
+storey-run-spec =
+    tie.close
+    (tie.spec
+    run-start-requires
+    run-length-requires
+    mul-from
+    mul-to
+    add-to
+    mul-result
+    sub-result
+    part-result-start
+    part-result-end
+    returns)

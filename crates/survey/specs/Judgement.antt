@@ -1,0 +1,109 @@
+-- Which refusal a table gets. Document 01, "What a refused sheet is told": scoring tests "1, then each row from the top for 3, 4, 5, 6,
+-- 7, 8 in that order (4 names the leftmost column; 3 and 5 name column 1)".
+use Prim.Native.Nat.{ℕ, _+_, _-_, _*_}
+use mathlib.Core.Bool.{Bool, cond, not, _||_}
+use mathlib.Core.List.{List}
+use lib.ListN.{length, getD}
+use lib.Dec.{eqb, leb, ltb}
+use lib.Bits.{bitAnd}
+use Rattle.answer.specs.Told.{Told, counted, refusal, sheet-length, row-out-of-order, out-of-range, too-many-walls, ends-exceed-storey, mark-on-absent-part, no-parts}
+use Rattle.answer.specs.First.{first}
+use Rattle.answer.specs.Length.{rowsIn}
+use Rattle.survey.specs.Table.{cell, storeys, endsStorey, firstWall, partsRow}
+use Rattle.survey.specs.Ranges.{Range, lows, highs, house, storey, ends, wall, parts}
+use Rattle.survey.specs.declared.fault.Fault.{Fault}
+
+-- A row's fault: a refusal's number and column, from 1; number 0 where the row has none.
+abbrev pub fault : ℕ → ℕ → Fault
+fault number column = record { number = number; column = column }
+
+abbrev pub none : Fault
+none = fault 0 0
+
+abbrev pub faulty : Fault → Bool
+faulty f = ltb 0 (f .number)
+
+-- The first fault of two tests, in their order.
+infixr 40 _then_
+unfoldable pub _then_ : Fault → Fault → Fault
+f then g = cond (faulty f) f g
+
+-- A test that finds a fault where something holds.
+unfoldable pub test : Bool → Fault → Fault
+test holds f = cond holds f none
+
+-- Whether the number in a column lies outside its range.
+unfoldable pub outside : List ℕ → List ℕ → List ℕ → ℕ → ℕ → Bool
+outside low high table row column =
+    ltb (cell table row column) (getD low column 0) || ltb (getD high column 0) (cell table row column)
+
+-- The leftmost column of a row, from 0, whose number lies outside its range; 8 where none does.
+unfoldable pub leftmost : List ℕ → List ℕ → List ℕ → ℕ → ℕ
+leftmost low high table row = first (outside low high table row) 8
+
+-- Refusals 3 and 4, by that column. The first `due` columns say which row it is: its kind, and the storey and direction that are due.
+unfoldable pub wrongColumn : ℕ → ℕ → Fault
+wrongColumn due column =
+    test (ltb column due) (fault row-out-of-order 1)
+    then test (ltb column 8) (fault out-of-range (column + 1))
+
+abbrev pub columns : ℕ → List Range → List ℕ → ℕ → Fault
+columns due ranges table row = wrongColumn due (leftmost (lows ranges) (highs ranges) table row)
+
+unfoldable pub houseFault : List ℕ → Fault
+houseFault table = columns 1 (house table) table 0
+
+unfoldable pub storeyFault : List ℕ → ℕ → Fault
+storeyFault table row = columns 2 (storey row) table row
+
+-- "area a + area b over the storey's area; column 4".
+unfoldable pub endsFault : List ℕ → ℕ → Fault
+endsFault table row =
+    columns 3 (ends table row) table row
+    then test (ltb (cell table (endsStorey table row) 2) (cell table row 3 + cell table row 4)) (fault ends-exceed-storey 4)
+
+-- The storey of the wall before; 0 before the first wall.
+unfoldable pub storeyBefore : List ℕ → ℕ → ℕ
+storeyBefore table row = cond (eqb row (firstWall table)) 0 (cell table (row - 1) 1)
+
+abbrev pub mostWalls : ℕ
+mostWalls = 300
+
+-- "In a wall row whose storey falls, 3 comes before 4"; "the 301st wall row".
+unfoldable pub wallFault : List ℕ → ℕ → Fault
+wallFault table row =
+    test (ltb (cell table row 1) (storeyBefore table row)) (fault row-out-of-order 1)
+    then columns 1 (wall table row) table row
+    then test (leb (firstWall table + mostWalls) row) (fault too-many-walls 1)
+
+-- Every item of a set is one of another: "item 1 is worth 1, each next item twice the one before".
+unfoldable pub within : ℕ → ℕ → Bool
+within set other = eqb (bitAnd set other) set
+
+-- "mark on absent part"; "present set 0".
+unfoldable pub partsFault : List ℕ → ℕ → Fault
+partsFault table row =
+    columns 1 parts table row
+    then test (not (within (cell table row 2) (cell table row 1))) (fault mark-on-absent-part 3)
+    then test (eqb (cell table row 1) 0) (fault no-parts 2)
+
+-- A row by the place where it stands, where the rows before it have no fault. After the parts row no row is due.
+unfoldable pub rowFault : List ℕ → ℕ → Fault
+rowFault table row =
+    cond (eqb row 0) (houseFault table)
+    (cond (leb row (storeys table)) (storeyFault table row)
+    (cond (ltb row (firstWall table)) (endsFault table row)
+    (cond (ltb row (partsRow table)) (wallFault table row)
+    (cond (eqb row (partsRow table)) (partsFault table row)
+    (fault row-out-of-order 1)))))
+
+-- The answer of judging a table: the first faulty row's refusal; 3 at the row after the last where the table ends before its parts row;
+-- else the count of rows.
+unfoldable pub judging : List ℕ → Told
+judging table =
+    let rows = rowsIn 8 (length table) in
+    let row = first (λ i. faulty (rowFault table i)) rows in
+    cond (eqb rows 0) (refusal sheet-length 0 0)
+    (cond (ltb row rows) (refusal (rowFault table row .number) (row + 1) (rowFault table row .column))
+    (cond (leb rows (partsRow table)) (refusal row-out-of-order (rows + 1) 1)
+    (counted rows)))

@@ -1,0 +1,6 @@
+-- The definitions that the survey's promises cite, in document 01's order: where rows stand, what their columns may hold, which refusal
+-- is due, a storey's walls.
+pub mod Table
+pub mod Ranges
+pub mod Judgement
+pub mod Walls

@@ -1,0 +1,41 @@
+-- A table's numbers, and where its rows stand. Document 01, "The sheet and the table": "32-bit numbers, eight to a row"; the house, its
+-- storeys from the ground up, ends for each storey and direction, walls, and one parts row. Rows and columns count from 0 here.
+use Prim.Native.Nat.{ℕ, _+_, _-_, _*_, _/_, _%_}
+use mathlib.Core.Bool.{Bool, cond, not}
+use mathlib.Core.List.{List}
+use lib.ListN.{length, getD}
+use lib.Dec.{eqb}
+use Rattle.answer.specs.First.{first}
+
+-- The number in a row and a column; 0 beyond the table, and no row is of kind 0.
+abbrev pub cell : List ℕ → ℕ → ℕ → ℕ
+cell table row column = getD table (8 * row + column) 0
+
+-- How many storeys the house row says.
+abbrev pub storeys : List ℕ → ℕ
+storeys table = cell table 0 1
+
+-- The house is row 0, and the storey of each number the row of that number. The ends follow, two rows a storey.
+abbrev pub firstEnds : List ℕ → ℕ
+firstEnds table = storeys table + 1
+
+-- The storey and the direction that are due in a row of ends.
+abbrev pub endsStorey : List ℕ → ℕ → ℕ
+endsStorey table row = (row - firstEnds table) / 2 + 1
+
+abbrev pub endsDirection : List ℕ → ℕ → ℕ
+endsDirection table row = (row - firstEnds table) % 2 + 1
+
+-- The walls follow: as many rows as are of kind 4, one after the other.
+abbrev pub firstWall : List ℕ → ℕ
+firstWall table = 3 * storeys table + 1
+
+abbrev pub isWall : List ℕ → ℕ → Bool
+isWall table row = eqb (cell table row 0) 4
+
+unfoldable pub wallRows : List ℕ → ℕ
+wallRows table = first (λ k. not (isWall table (firstWall table + k))) (length table)
+
+-- The row after the walls, where the parts are due.
+abbrev pub partsRow : List ℕ → ℕ
+partsRow table = firstWall table + wallRows table

@@ -1,0 +1,102 @@
+// A table judged: the count of its rows, or the refusal.
+use crate::fault::Fault;
+use crate::fault::cell;
+use crate::fault::fault_at;
+use crate::rows::ends_fault;
+use crate::rows::house_fault;
+use crate::rows::parts_fault;
+use crate::rows::storey_fault;
+use crate::rows::wall_fault;
+use answer::Answer;
+use answer::ROW;
+use answer::ROW_OUT_OF_ORDER;
+use answer::SHEET_LENGTH;
+use answer::rows_in;
+ghost use mathlib.Core.Path.{_≡_};
+ghost use Prim.Native.Nat.{_<_, _≤_, _+_, _*_};
+ghost use lib.ListN.{length};
+ghost use Rattle.answer.specs.Told.{told, refusal};
+ghost use Rattle.survey.specs.Table.{cell, firstWall, partsRow};
+ghost use Rattle.survey.specs.Judgement.{rowFault, judging};
+
+// The row after the walls, where the parts are due. `first` is the first wall's row.
+fn parts_row(table: &[u32], rows: usize, first: usize) -> usize
+    requires { ⌜ (8 * rows ≡ length (now table)) × (0 < rows) × (rows ≤ 311) ⌝ }
+    requires { ⌜ (first ≡ firstWall (now table)) × (first ≤ 10) ⌝ }
+    ensures { λ r. ⌜ r ≡ partsRow (now (table .entry)) ⌝ }
+{
+    let mut walls = 0;
+    while first + walls < rows {
+        if cell(table, first + walls, 0) != 4 {
+            return first + walls;
+        }
+        walls += 1;
+    }
+    first + walls
+}
+
+// The fault of a row after the house's, by the place where it stands.
+fn row_fault(table: &[u32], storeys: usize, parts: usize, row: usize) -> Fault
+    requires { ⌜ (storeys ≡ cell (now table) 0 1) × (storeys ≤ 3) × (parts ≡ partsRow (now table)) × (0 < row) ⌝ }
+    requires { ⌜ 8 * row + 8 ≤ length (now table) ⌝ }
+    ensures { λ r. ⌜ r ≡ rowFault (now (table .entry)) row ⌝ }
+{
+    if row <= storeys {
+        return storey_fault(table, row);
+    }
+    let first = 3 * storeys + 1;
+    if row < first {
+        return ends_fault(table, storeys, row);
+    }
+    if row < parts {
+        return wall_fault(table, storeys as u32, first, row);
+    }
+    if row == parts {
+        return parts_fault(table, row);
+    }
+    fault_at(ROW_OUT_OF_ORDER, 1)
+}
+
+// The refusal of a row, counted from 0, by its fault.
+fn refused(found: Fault, row: usize) -> Answer
+    requires { ⌜ row ≤ 311 ⌝ }
+    ensures { λ r. ⌜ told r ≡ refusal (found .number) (row + 1) (found .column) ⌝ }
+{
+    Answer::Refused {
+        number: found.number,
+        row: row as u32 + 1,
+        column: found.column,
+    }
+}
+
+// Judges any table: the count of its rows, or the refusal.
+pub fn judge(table: &[u32]) -> Answer
+    ensures { λ r. ⌜ told r ≡ judging (now (table .entry)) ⌝ }
+{
+    let rows = rows_in(table.len(), ROW);
+    if rows == 0 {
+        return Answer::Refused {
+            number: SHEET_LENGTH,
+            row: 0,
+            column: 0,
+        };
+    }
+    let house = house_fault(table);
+    if 0 < house.number {
+        return refused(house, 0);
+    }
+    let storeys = cell(table, 0, 1) as usize;
+    let parts = parts_row(table, rows, 3 * storeys + 1);
+    let mut row = 1;
+    while row < rows {
+        let found = row_fault(table, storeys, parts, row);
+        if 0 < found.number {
+            return refused(found, row);
+        }
+        row += 1;
+    }
+    if rows <= parts {
+        return refused(fault_at(ROW_OUT_OF_ORDER, 1), rows);
+    }
+    Answer::Count(rows as u32)
+}

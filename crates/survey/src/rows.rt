@@ -1,0 +1,191 @@
+// The faults of each kind of row. The ranges stand as specs/Ranges.antt has them, the least numbers of
+// the eight columns and then the greatest.
+use crate::fault::Fault;
+use crate::fault::cell;
+use crate::fault::columns;
+use crate::fault::fault_at;
+use crate::fault::no_fault;
+use answer::ENDS_EXCEED_STOREY;
+use answer::MARK_ON_ABSENT_PART;
+use answer::NO_PARTS;
+use answer::ROW_OUT_OF_ORDER;
+use answer::TOO_MANY_WALLS;
+ghost use mathlib.Core.Path.{_≡_};
+ghost use Prim.Native.Nat.{_<_, _≤_, _+_, _*_};
+ghost use lib.ListN.{length};
+ghost use Rattle.survey.specs.Table.{cell, firstWall};
+ghost use Rattle.survey.specs.Ranges.{zone, isOpening, wall};
+ghost use Rattle.survey.specs.Judgement.{columns, houseFault, storeyFault, endsFault, storeyBefore, wallFault, partsFault};
+
+// The most walls of a house.
+const MOST_WALLS: usize = 300;
+
+// The zone that a number is; 100 where it is none.
+fn zone(number: u32) -> u32
+    ensures { λ r. ⌜ r ≡ zone number ⌝ }
+{
+    if number == 70 {
+        return 70;
+    }
+    if number == 80 {
+        return 80;
+    }
+    if number == 90 {
+        return 90;
+    }
+    100
+}
+
+pub(crate) fn house_fault(table: &[u32]) -> Fault
+    requires { ⌜ 8 ≤ length (now table) ⌝ }
+    ensures { λ r. ⌜ r ≡ houseFault (now (table .entry)) ⌝ }
+{
+    let zone = zone(cell(table, 0, 3));
+    columns(
+        table,
+        0,
+        [1, 1, 1, zone, 1, 1, 1, 0],
+        [1, 3, 3, zone, 2, 3, 2, 0],
+        1,
+    )
+}
+
+pub(crate) fn storey_fault(table: &[u32], row: usize) -> Fault
+    requires { ⌜ row ≤ 3 ⌝ }
+    requires { ⌜ 8 * row + 8 ≤ length (now table) ⌝ }
+    ensures { λ r. ⌜ r ≡ storeyFault (now (table .entry)) row ⌝ }
+{
+    let storey = row as u32;
+    columns(
+        table,
+        row,
+        [2, storey, 1, 500, 1, 0, 0, 0],
+        [2, storey, 50_000, 50_000, 3, 1, 0, 0],
+        2,
+    )
+}
+
+// A number where a sum of two fits.
+fn wide(number: u32) -> usize
+    ensures { λ r. ⌜ r ≡ number ⌝ }
+{
+    number as usize
+}
+
+// `storeys` are the house's.
+pub(crate) fn ends_fault(table: &[u32], storeys: usize, row: usize) -> Fault
+    requires { ⌜ (storeys ≡ cell (now table) 0 1) × (storeys ≤ 3) × (storeys < row) × (row ≤ 9) ⌝ }
+    requires { ⌜ 8 * row + 8 ≤ length (now table) ⌝ }
+    ensures { λ r. ⌜ r ≡ endsFault (now (table .entry)) row ⌝ }
+{
+    let ends = row - (storeys + 1);
+    let at = ends / 2 + 1;
+    let top = storeys as u32;
+    let storey = at as u32;
+    let direction = (ends % 2 + 1) as u32;
+    let found = columns(
+        table,
+        row,
+        [3, storey, direction, 1, 1, storey, storey, 0],
+        [3, storey, direction, 50_000, 50_000, top, top, 0],
+        3,
+    );
+    if 0 < found.number {
+        return found;
+    }
+    if wide(cell(table, at, 2)) < wide(cell(table, row, 3)) + wide(cell(table, row, 4)) {
+        return fault_at(ENDS_EXCEED_STOREY, 4);
+    }
+    no_fault()
+}
+
+// Whether a wall's type is a window or a full-height opening.
+fn is_opening(number: u32) -> bool
+    ensures { λ r. ⌜ r ≡ isOpening number ⌝ }
+{
+    if number == 2 {
+        return true;
+    }
+    number == 3
+}
+
+// The storey of the wall before; 0 before the first wall.
+fn storey_before(table: &[u32], first: usize, row: usize) -> u32
+    requires { ⌜ (first ≡ firstWall (now table)) × (first ≤ row) ⌝ }
+    requires { ⌜ 8 * row + 8 ≤ length (now table) ⌝ }
+    ensures { λ r. ⌜ r ≡ storeyBefore (now (table .entry)) row ⌝ }
+{
+    if row == first {
+        return 0;
+    }
+    cell(table, row - 1, 1)
+}
+
+// Refusals 3 and 4 for a wall whose storey does not fall. An opening has neither strength nor joint.
+fn wall_columns(table: &[u32], storeys: u32, row: usize) -> Fault
+    requires { ⌜ storeys ≡ cell (now table) 0 1 ⌝ }
+    requires { ⌜ 8 * row + 8 ≤ length (now table) ⌝ }
+    ensures { λ r. ⌜ r ≡ columns 1 (wall (now (table .entry)) row) (now (table .entry)) row ⌝ }
+{
+    if is_opening(cell(table, row, 7)) {
+        return columns(
+            table,
+            row,
+            [4, 1, 1, 1, 0, 1, 0, 1],
+            [4, storeys, 2, 3, 0, 20_000, 0, 3],
+            1,
+        );
+    }
+    columns(
+        table,
+        row,
+        [4, 1, 1, 1, 1, 1, 1, 1],
+        [4, storeys, 2, 3, 300, 20_000, 4, 3],
+        1,
+    )
+}
+
+// `storeys` are the house's, and `first` is the first wall's row.
+pub(crate) fn wall_fault(table: &[u32], storeys: u32, first: usize, row: usize) -> Fault
+    requires { ⌜ storeys ≡ cell (now table) 0 1 ⌝ }
+    requires { ⌜ (first ≡ firstWall (now table)) × (first ≤ 10) × (first ≤ row) ⌝ }
+    requires { ⌜ 8 * row + 8 ≤ length (now table) ⌝ }
+    ensures { λ r. ⌜ r ≡ wallFault (now (table .entry)) row ⌝ }
+{
+    if cell(table, row, 1) < storey_before(table, first, row) {
+        return fault_at(ROW_OUT_OF_ORDER, 1);
+    }
+    let found = wall_columns(table, storeys, row);
+    if 0 < found.number {
+        return found;
+    }
+    if first + MOST_WALLS <= row {
+        return fault_at(TOO_MANY_WALLS, 1);
+    }
+    no_fault()
+}
+
+pub(crate) fn parts_fault(table: &[u32], row: usize) -> Fault
+    requires { ⌜ 8 * row + 8 ≤ length (now table) ⌝ }
+    ensures { λ r. ⌜ r ≡ partsFault (now (table .entry)) row ⌝ }
+{
+    let found = columns(
+        table,
+        row,
+        [5, 0, 0, 0, 0, 0, 0, 0],
+        [5, 8_191, 8_191, 0, 0, 0, 0, 0],
+        1,
+    );
+    if 0 < found.number {
+        return found;
+    }
+    let present = cell(table, row, 1);
+    let marked = cell(table, row, 2);
+    if marked & present != marked {
+        return fault_at(MARK_ON_ABSENT_PART, 3);
+    }
+    if present == 0 {
+        return fault_at(NO_PARTS, 2);
+    }
+    no_fault()
+}
