@@ -2,3 +2,4 @@
 pub mod Told
 pub mod First
 pub mod Length
+pub mod P1

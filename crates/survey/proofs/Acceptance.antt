@@ -16,8 +16,8 @@ use Rattle.answer.specs.Length.{rowsIn}
 use Rattle.answer.proofs.Refusals.{passed}
 use Rattle.answer.proofs.Places.{before-first, at-first, first-most}
 use Rattle.answer.proofs.Lengths.{Whole, rows-whole}
-use Rattle.survey.specs.Table.{cell, storeys, endsStorey, firstWall, wallRows, partsRow}
-use Rattle.survey.specs.Ranges.{house, storey, ends, wall, parts}
+use Rattle.survey.specs.Table.{cell, storeys, endsStorey, firstWall, wallRows, partsRow, rowsDue}
+use Rattle.survey.specs.Ranges.{zone, house, storey, ends, wall, parts}
 use Rattle.survey.specs.Judgement.{fault, faulty, test, _then_, columns, houseFault, storeyFault, endsFault, storeyBefore, mostWalls, wallFault, within, partsFault, rowFault, judging}
 use Rattle.survey.proofs.Cases.{row-house, row-storey, row-ends, row-wall, row-parts, row-after}
 use Rattle.survey.proofs.Judged.{judging-accepted}
@@ -26,7 +26,7 @@ use Rattle.survey.proofs.Inside.{Clean, Inside, then-clean, test-clean,
 -- What an accepted table is made of.
 pub record Accepted (table : List ℕ) : Type 0 where
   -- The parts row is the last.
-  pub sizes : Whole 8 (length table) (partsRow table + 1)
+  pub sizes : Whole 8 (length table) (rowsDue table)
   pub house-inside : Inside (house table) table 0
   pub storey-inside : (row : ℕ) → 0 < row → row ≤ storeys table → Inside (storey row) table row
   pub ends-inside : (row : ℕ) → storeys table < row → row < firstWall table → Inside (ends table row) table row
@@ -42,7 +42,7 @@ pub record Accepted (table : List ℕ) : Type 0 where
 record Faultless (table : List ℕ) (rows : ℕ) : Type 0 where
   size : Whole 8 (length table) rows
   clean : (row : ℕ) → row < rows → Clean (rowFault table row)
-  reaches : partsRow table < rows
+  reaches : rowsDue table ≤ rows
 
 faultless : (table : List ℕ) → (judging table) .number ≡ 0 → Faultless table (rowsIn 8 (length table))
 unfolding judging
@@ -55,7 +55,7 @@ faultless table h = go (ltb row rows) refl (some .1)
     row = first (λ i. faulty (rowFault table i)) rows
 
     rest : Told
-    rest = cond (leb rows (partsRow table)) (refusal row-out-of-order (rows + 1) 1) (counted rows)
+    rest = cond (ltb rows (rowsDue table)) (refusal row-out-of-order (rows + 1) 1) (counted rows)
 
     some : (eqb rows 0 ≡ false) × ((cond (ltb row rows) (refusal (rowFault table row .number) (row + 1) (rowFault table row .column)) rest) .number ≡ 0)
     some = passed (eqb rows 0) (refusal sheet-length 0 0) _ refl h
@@ -66,7 +66,7 @@ faultless table h = go (ltb row rows) refl (some .1)
     go false e z = record {
       size = rows-whole 8 (length table) refl (eqb-false rows 0 (some .0));
       clean = λ k l. ltb-false 0 (rowFault table k .number) (before-first (λ i. faulty (rowFault table i)) rows k (omega (arith, ltb-false row rows e)));
-      reaches = leb-false rows (partsRow table) (passed (leb rows (partsRow table)) (refusal row-out-of-order (rows + 1) 1) (counted rows) refl z .0);
+      reaches = ltb-false rows (rowsDue table) (passed (ltb rows (rowsDue table)) (refusal row-out-of-order (rows + 1) 1) (counted rows) refl z .0);
     }
 
 module _ (table : List ℕ) (h : (judging table) .number ≡ 0) where
@@ -80,13 +80,13 @@ module _ (table : List ℕ) (h : (judging table) .number ≡ 0) where
   storeys-few = house-storeys table (rw (row-house table) (right .clean 0 (right .size .some)))
 
   -- No row is due after the parts row.
-  last : rows ≡ partsRow table + 1
-  last = go (decLt (partsRow table + 1) rows)
+  last : rows ≡ rowsDue table
+  last = go (decLt (rowsDue table) rows)
     where
-      go : Dec (partsRow table + 1 < rows) → rows ≡ partsRow table + 1
+      go : Dec (rowsDue table < rows) → rows ≡ rowsDue table
       go (yes l) =
-          let after = row-after table (partsRow table + 1) (omega arith) (omega arith) (omega arith) (omega arith) in
-          absurd (omega (arith, rw (← after) at (right .clean (partsRow table + 1) l)))
+          let after = row-after table (rowsDue table) (omega arith) (omega arith) (omega arith) (omega arith) in
+          absurd (omega (arith, rw (← after) at (right .clean (rowsDue table) l)))
       go (no l) = omega (arith, right .reaches)
 
   storey-clean : (row : ℕ) → 0 < row → row ≤ storeys table → Clean (storeyFault table row)
@@ -99,7 +99,7 @@ module _ (table : List ℕ) (h : (judging table) .number ≡ 0) where
   wall-clean row past before = rw (row-wall table row (omega arith) (omega arith) past before) (right .clean row (omega (arith, right .reaches)))
 
   parts-clean : Clean (partsFault table (partsRow table))
-  parts-clean = rw (row-parts table (partsRow table) (omega arith) (omega arith) (omega arith) refl) (right .clean (partsRow table) (right .reaches))
+  parts-clean = rw (row-parts table (partsRow table) (omega arith) (omega arith) (omega arith) refl) (right .clean (partsRow table) (omega (arith, right .reaches)))
 
   -- A wall row's three tests.
   wall-tests : (row : ℕ) → firstWall table ≤ row → row < partsRow table
@@ -170,7 +170,7 @@ module _ (table : List ℕ) (h : (judging table) .number ≡ 0) where
   }
 
   -- The answer counts every row.
-  pub accepted-count : judging table ≡ counted (partsRow table + 1)
+  pub accepted-count : judging table ≡ counted (rowsDue table)
   accepted-count =
       sym (judging-accepted table refl (λ e. omega (arith, right .size)) (λ k l. le-ltb 0 (rowFault table k .number) (right .clean k l)) (right .reaches))
       ∙ ap counted last
@@ -179,10 +179,27 @@ module _ (table : List ℕ) (h : (judging table) .number ≡ 0) where
 module _ (table : List ℕ) {answer : Answer} (judged : told answer ≡ judging table) where
   pub judge-refused : {number row column : ℕ} → answer ≡ Refused number row column → (judging table) .number ≡ 0 → ⊥
   judge-refused e h =
-      let none : _≡_ {A = ℕ} 0 (partsRow table + 1) = ap (λ (x : Answer). told x .count) (sym e) ∙ ap (λ (x : Told). x .count) (judged ∙ accepted-count table h) in
+      let none : _≡_ {A = ℕ} 0 (rowsDue table) = ap (λ (x : Answer). told x .count) (sym e) ∙ ap (λ (x : Told). x .count) (judged ∙ accepted-count table h) in
       omega arith
 
-  pub judge-accepted : {count : ℕ} → answer ≡ Count count → ((judging table) .number ≡ 0) × (count ≡ partsRow table + 1)
+  pub judge-accepted : {count : ℕ} → answer ≡ Count count → ((judging table) .number ≡ 0) × (count ≡ rowsDue table)
   judge-accepted {count} e =
       let h : (judging table) .number ≡ 0 = ap (λ (x : Told). x .number) (sym judged) ∙ ap (λ (x : Answer). told x .number) e in
       (h, ap (λ (x : Answer). told x .count) (sym e) ∙ ap (λ (x : Told). x .count) (judged ∙ accepted-count table h))
+
+-- An accepted house's zone.
+zone-bounds : (n : ℕ) → (70 ≤ zone n) × (zone n ≤ 100)
+unfolding zone
+zone-bounds n = go (eqb n 70) (eqb n 80) (eqb n 90)
+  where
+    go : (a b c : Bool) → (70 ≤ cond a 70 (cond b 80 (cond c 90 100))) × (cond a 70 (cond b 80 (cond c 90 100)) ≤ 100)
+    go true b c = (omega arith, omega arith)
+    go false true c = (omega arith, omega arith)
+    go false false true = (omega arith, omega arith)
+    go false false false = (omega arith, omega arith)
+
+pub accepted-zone : {table : List ℕ} → Accepted table → (70 ≤ cell table 0 3) × (cell table 0 3 ≤ 100)
+accepted-zone {table} a =
+    let inside = a .house-inside 3 (omega arith) in
+    let bounds = zone-bounds (cell table 0 3) in
+    (omega (arith, inside, bounds), omega (arith, inside, bounds))

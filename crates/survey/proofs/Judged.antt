@@ -11,7 +11,7 @@ use Rattle.answer.specs.First.{first}
 use Rattle.answer.specs.Length.{rowsIn}
 use Rattle.answer.proofs.Places.{first-is, first-none}
 use Rattle.survey.specs.declared.fault.Fault.{Fault}
-use Rattle.survey.specs.Table.{partsRow}
+use Rattle.survey.specs.Table.{wallRows, rowsDue}
 use Rattle.survey.specs.Judgement.{fault, faulty, rowFault, judging}
 
 module _ (table : List ℕ) {rows : ℕ} (so-many : rows ≡ rowsIn 8 (length table)) where
@@ -27,12 +27,12 @@ module _ (table : List ℕ) {rows : ℕ} (so-many : rows ≡ rowsIn 8 (length ta
         rw (← so-many, ne-eqb rows 0 some, first-is (λ i. faulty (rowFault table i)) rows row h before (rw (← e) (lt-ltb 0 (f .number) some-fault)), lt-ltb row rows h, e)
 
     module _ (clean : (k : ℕ) → k < rows → faulty (rowFault table k) ≡ false) where
-      pub judging-short : {f : Fault} → rows ≤ partsRow table → f ≡ fault row-out-of-order 1 → refusal (f .number) (rows + 1) (f .column) ≡ judging table
+      pub judging-short : {f : Fault} → rows < rowsDue table → f ≡ fault row-out-of-order 1 → refusal (f .number) (rows + 1) (f .column) ≡ judging table
       unfolding judging
       judging-short h e =
-          rw (e, ← so-many, ne-eqb rows 0 some, first-none (λ i. faulty (rowFault table i)) rows clean, le-ltb rows rows (le-refl rows), le-leb rows (partsRow table) h)
+          rw (e, ← so-many, ne-eqb rows 0 some, first-none (λ i. faulty (rowFault table i)) rows clean, le-ltb rows rows (le-refl rows), lt-ltb rows (rowsDue table) h)
 
-      pub judging-accepted : partsRow table < rows → counted rows ≡ judging table
+      pub judging-accepted : rowsDue table ≤ rows → counted rows ≡ judging table
       unfolding judging
       judging-accepted h =
-          rw (← so-many, ne-eqb rows 0 some, first-none (λ i. faulty (rowFault table i)) rows clean, le-ltb rows rows (le-refl rows), lt-leb rows (partsRow table) h)
+          rw (← so-many, ne-eqb rows 0 some, first-none (λ i. faulty (rowFault table i)) rows clean, le-ltb rows rows (le-refl rows), le-ltb rows (rowsDue table) h)

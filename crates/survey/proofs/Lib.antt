@@ -5,3 +5,5 @@ pub mod Judged
 pub mod Inside
 pub mod Acceptance
 pub mod Shown
+pub mod Sets
+pub mod Examples

@@ -2,11 +2,11 @@
 use mathlib.Core.Path.{_≡_, refl, ap, sym, _∙_}
 use mathlib.Core.Bool.{Bool, true, false, not}
 use mathlib.Core.List.{List}
-use Prim.Native.Nat.{ℕ, _+_, _*_, _/_, _<_, _≤_}
+use Prim.Native.Nat.{ℕ, _+_, _-_, _*_, _/_, _%_, _<_, _≤_}
 use native.Mathlib.Omega.{arith}
 use lib.ListN.{length, List·getD-eq-default}
 use Rattle.answer.proofs.Places.{first-is}
-use Rattle.survey.specs.Table.{cell, isWall, firstWall, wallRows, partsRow}
+use Rattle.survey.specs.Table.{cell, storeys, endsRow, endsStorey, endsDirection, isWall, firstWall, wallRows, partsRow}
 
 -- Beyond a table every number is 0, and no row is a wall.
 pub beyond : (table : List ℕ) (row column : ℕ) → length table ≤ 8 * row → cell table row column ≡ 0
@@ -22,3 +22,17 @@ module _ (table : List ℕ) {first walls : ℕ} (e : first ≡ firstWall table) 
   unfolding wallRows
   parts-row-is h before here =
       ap (λ (n : ℕ). n + walls) e ∙ ap (λ (n : ℕ). firstWall table + n) (sym (first-is _ _ _ h (rw (e) at before) (rw e at here)))
+
+-- The row of a storey's ends in a direction stands between the storeys and the walls, and that storey and direction are due in it.
+module _ (table : List ℕ) (storey direction : ℕ) (some : 1 ≤ storey) (one : 1 ≤ direction) (two : direction ≤ 2) where
+  pub ends-above : storeys table < endsRow table storey direction
+  ends-above = omega arith
+
+  pub ends-before : storey ≤ storeys table → endsRow table storey direction < firstWall table
+  ends-before most = omega arith
+
+  pub ends-storey : endsStorey table (endsRow table storey direction) ≡ storey
+  ends-storey = omega arith
+
+  pub ends-direction : endsDirection table (endsRow table storey direction) ≡ direction
+  ends-direction = omega arith

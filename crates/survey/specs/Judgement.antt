@@ -9,7 +9,7 @@ use lib.Bits.{bitAnd}
 use Rattle.answer.specs.Told.{Told, counted, refusal, sheet-length, row-out-of-order, out-of-range, too-many-walls, ends-exceed-storey, mark-on-absent-part, no-parts}
 use Rattle.answer.specs.First.{first}
 use Rattle.answer.specs.Length.{rowsIn}
-use Rattle.survey.specs.Table.{cell, storeys, endsStorey, firstWall, partsRow}
+use Rattle.survey.specs.Table.{cell, storeys, endsStorey, firstWall, partsRow, rowsDue}
 use Rattle.survey.specs.Ranges.{Range, lows, highs, house, storey, ends, wall, parts}
 use Rattle.survey.specs.declared.fault.Fault.{Fault}
 
@@ -97,13 +97,13 @@ rowFault table row =
     (cond (eqb row (partsRow table)) (partsFault table row)
     (fault row-out-of-order 1)))))
 
--- The answer of judging a table: the first faulty row's refusal; 3 at the row after the last where the table ends before its parts row;
--- else the count of rows.
+-- The answer of judging a table: the first faulty row's refusal; 3 at the row after the last where the table ends early; else the count
+-- of rows.
 unfoldable pub judging : List ℕ → Told
 judging table =
     let rows = rowsIn 8 (length table) in
     let row = first (λ i. faulty (rowFault table i)) rows in
     cond (eqb rows 0) (refusal sheet-length 0 0)
     (cond (ltb row rows) (refusal (rowFault table row .number) (row + 1) (rowFault table row .column))
-    (cond (leb rows (partsRow table)) (refusal row-out-of-order (rows + 1) 1)
+    (cond (ltb rows (rowsDue table)) (refusal row-out-of-order (rows + 1) 1)
     (counted rows)))

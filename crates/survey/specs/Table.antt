@@ -19,7 +19,10 @@ storeys table = cell table 0 1
 abbrev pub firstEnds : List ℕ → ℕ
 firstEnds table = storeys table + 1
 
--- The storey and the direction that are due in a row of ends.
+-- The row of a storey's ends in a direction, both numbered from 1; and the storey and the direction that are due in a row of ends.
+abbrev pub endsRow : List ℕ → ℕ → ℕ → ℕ
+endsRow table storey direction = firstEnds table + 2 * (storey - 1) + (direction - 1)
+
 abbrev pub endsStorey : List ℕ → ℕ → ℕ
 endsStorey table row = (row - firstEnds table) / 2 + 1
 
@@ -39,3 +42,7 @@ wallRows table = first (λ k. not (isWall table (firstWall table + k))) (length 
 -- The row after the walls, where the parts are due.
 abbrev pub partsRow : List ℕ → ℕ
 partsRow table = firstWall table + wallRows table
+
+-- The rows of a whole table: the parts row is the last.
+abbrev pub rowsDue : List ℕ → ℕ
+rowsDue table = partsRow table + 1

@@ -16,12 +16,13 @@ ghost use mathlib.Core.Path.{_≡_};
 ghost use Prim.Native.Nat.{_<_, _≤_, _+_, _*_};
 ghost use lib.ListN.{length};
 ghost use Rattle.answer.specs.Told.{told, refusal};
+ghost use Rattle.answer.specs.Length.{mostRows};
 ghost use Rattle.survey.specs.Table.{cell, firstWall, partsRow};
 ghost use Rattle.survey.specs.Judgement.{rowFault, judging};
 
 // The row after the walls, where the parts are due. `first` is the first wall's row.
 fn parts_row(table: &[u32], rows: usize, first: usize) -> usize
-    requires { ⌜ (8 * rows ≡ length (now table)) × (0 < rows) × (rows ≤ 311) ⌝ }
+    requires { ⌜ (8 * rows ≡ length (now table)) × (0 < rows) × (rows ≤ mostRows) ⌝ }
     requires { ⌜ (first ≡ firstWall (now table)) × (first ≤ 10) ⌝ }
     ensures { λ r. ⌜ r ≡ partsRow (now (table .entry)) ⌝ }
 {
@@ -59,7 +60,7 @@ fn row_fault(table: &[u32], storeys: usize, parts: usize, row: usize) -> Fault
 
 // The refusal of a row, counted from 0, by its fault.
 fn refused(found: Fault, row: usize) -> Answer
-    requires { ⌜ row ≤ 311 ⌝ }
+    requires { ⌜ row ≤ mostRows ⌝ }
     ensures { λ r. ⌜ told r ≡ refusal (found .number) (row + 1) (found .column) ⌝ }
 {
     Answer::Refused {
