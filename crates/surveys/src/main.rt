@@ -1,0 +1,208 @@
+// Runs the tables of the sheets that its arguments name. Under each name stands a line with what
+// judging answers (number, row, column, count) and a line with how many rows are shown of storeys 0 to
+// 4 and of 4,294,967,295. After one of the words below, each table is run in another way. What is
+// printed is tested, against the file stdout.
+use answer::Answer;
+use answer::MOST_ROWS;
+use answer::ROW;
+use libc::STDOUT_FILENO;
+
+// How a table is run: judged as it is;
+const JUDGED: u32 = 0;
+// the rows printed that are shown of each storey (--walls);
+const WALLS: u32 = 1;
+// and those of the first run of each storey, which nobody judges (--runs);
+const RUNS: u32 = 2;
+// every front of the table judged, from no number to all of them (--lengths);
+const LENGTHS: u32 = 3;
+// judged with 4,294,967,295 in the place of each number in turn (--large);
+const LARGE: u32 = 4;
+// judged with a row of zeros after the last (--longer).
+const LONGER: u32 = 5;
+
+const LARGEST: u32 = 4_294_967_295;
+
+// The numbers of the longest table; and of one that is a row longer.
+const NUMBERS: usize = MOST_ROWS * ROW;
+
+const TABLE: usize = NUMBERS + ROW;
+
+fn print_row(row: [u32; 8]) {
+    io::write_all(STDOUT_FILENO, &sheet::print_line(row));
+}
+
+// How many rows a part has; the last six digits of that.
+fn rows_of(part: &[u32]) -> u32 {
+    (part.len() / ROW % 1_000_000) as u32
+}
+
+fn shown(table: &[u32], storey: u32) -> u32 {
+    rows_of(survey::storey_walls(table, storey))
+}
+
+// Prints an answer: number, row, column, count.
+fn print_answer(answer: Answer) {
+    match answer {
+        Answer::Refused {
+            number,
+            row,
+            column,
+        } => print_row([number, row, column, 0, 0, 0, 0, 0]),
+        Answer::Count(count) => print_row([0, 0, 0, count, 0, 0, 0, 0]),
+    }
+}
+
+// Judges a table, and counts the rows that are shown of each storey.
+fn run_judged(table: &[u32]) {
+    print_answer(survey::judge(table));
+    print_row([
+        shown(table, 0),
+        shown(table, 1),
+        shown(table, 2),
+        shown(table, 3),
+        shown(table, 4),
+        shown(table, LARGEST),
+        0,
+        0,
+    ]);
+}
+
+// Prints a storey, the count of its rows, and the rows.
+fn print_part(storey: u32, part: &[u32]) {
+    print_row([storey, rows_of(part), 0, 0, 0, 0, 0, 0]);
+    let rows = part.len() / ROW;
+    if MOST_ROWS < rows {
+        return;
+    }
+    let length = rows * sheet::LINE;
+    let mut bytes = io::large_buffer();
+    sheet::print_rows(part, &mut bytes);
+    io::write_all(STDOUT_FILENO, &bytes[0..length]);
+}
+
+// The rows of a storey: those that are shown, or its first run.
+fn part_of(table: &[u32], storey: u32, way: u32) -> &[u32] {
+    if way == RUNS {
+        return survey::storey_run(table, storey);
+    }
+    survey::storey_walls(table, storey)
+}
+
+fn run_part(table: &[u32], storey: u32, way: u32) {
+    print_part(storey, part_of(table, storey, way));
+}
+
+fn run_parts(table: &[u32], way: u32) {
+    run_part(table, 0, way);
+    run_part(table, 1, way);
+    run_part(table, 2, way);
+    run_part(table, 3, way);
+    run_part(table, 4, way);
+}
+
+fn run_lengths(table: &[u32]) {
+    let mut front = 0;
+    while front <= table.len() {
+        print_answer(survey::judge(&table[0..front]));
+        front += 1;
+    }
+}
+
+fn run_large(table: &mut [u32]) {
+    let mut at = 0;
+    while at < table.len() {
+        let number = table[at];
+        table[at] = LARGEST;
+        print_answer(survey::judge(table));
+        table[at] = number;
+        at += 1;
+    }
+}
+
+// Runs the front of a table in one of the ways; what stands after it is zeros.
+fn run_table(table: &mut [u32], length: usize, way: u32) {
+    if NUMBERS < length {
+        return;
+    }
+    if table.len() < length + ROW {
+        return;
+    }
+    if way == WALLS {
+        run_parts(&table[0..length], way);
+        return;
+    }
+    if way == RUNS {
+        run_parts(&table[0..length], way);
+        return;
+    }
+    if way == LENGTHS {
+        run_lengths(&table[0..length]);
+        return;
+    }
+    if way == LARGE {
+        run_large(&mut table[0..length]);
+        return;
+    }
+    if way == LONGER {
+        run_judged(&table[0..length + ROW]);
+        return;
+    }
+    run_judged(&table[0..length]);
+}
+
+// Reads a sheet and runs its table; a sheet that is not read prints the refusal.
+fn run_sheet(sheet: &[u8], way: u32) {
+    let mut table = [0u32; TABLE];
+    let read = sheet::read(sheet, &mut table);
+    match read {
+        Answer::Refused { .. } => print_answer(read),
+        Answer::Count(rows) => run_table(&mut table, rows as usize * ROW, way),
+    }
+}
+
+fn run(path: &[u8], way: u32) {
+    let file = os::open_read(path);
+    if file < 0 {
+        os::fail(path);
+        return;
+    }
+    let mut sheet = io::large_buffer();
+    let length = io::read_full(file, &mut sheet);
+    libc::close(file);
+    io::write_all(STDOUT_FILENO, path);
+    io::write_all(STDOUT_FILENO, b"\n");
+    run_sheet(&sheet[..length], way);
+}
+
+// Runs one argument, and answers how tables are run from here on.
+fn run_argument(i: usize, way: u32) -> u32 {
+    let mut word = io::buffer();
+    let length = os::arg(i, &mut word);
+    if check::same(&word[..length], b"--walls") {
+        return WALLS;
+    }
+    if check::same(&word[..length], b"--runs") {
+        return RUNS;
+    }
+    if check::same(&word[..length], b"--lengths") {
+        return LENGTHS;
+    }
+    if check::same(&word[..length], b"--large") {
+        return LARGE;
+    }
+    if check::same(&word[..length], b"--longer") {
+        return LONGER;
+    }
+    run(&word[..length], way);
+    way
+}
+
+fn main() {
+    let count = os::arg_count();
+    let mut way = JUDGED;
+    let mut i = 1;
+    while i < count {
+        way = run_argument(i, way);
+        i += 1;
+    }
+}
