@@ -1,6 +1,7 @@
-// Runs the tables of the sheets that its arguments name. Under each name stands a line with what
-// judging answers (number, row, column, count) and a line with how many rows are shown of storeys 0 to
-// 4 and of 4,294,967,295. After one of the words below, each table is run in another way. What is
+// Runs the tables of the sheets that its arguments name, under each name a line. Of a table that is
+// accepted: its count of rows, and how many rows are shown of storeys 0 to 4 and of 4,294,967,295. Of
+// one that is refused: the refusal's line, 0; number; row; column; and then the rows shown of storeys 1
+// to 4, of which there are none. After one of the words below, tables are run in another way. What is
 // printed is tested, against the file stdout.
 use answer::Answer;
 use answer::MOST_ROWS;
@@ -40,31 +41,24 @@ fn shown(table: &[u32], storey: u32) -> u32 {
     rows_of(survey::storey_walls(table, storey))
 }
 
-// Prints an answer: number, row, column, count.
-fn print_answer(answer: Answer) {
-    match answer {
+// Judges a table, and counts the rows that are shown of each storey.
+fn run_judged(table: &[u32]) {
+    let one = shown(table, 1);
+    let two = shown(table, 2);
+    let three = shown(table, 3);
+    let four = shown(table, 4);
+    match survey::judge(table) {
         Answer::Refused {
             number,
             row,
             column,
-        } => print_row([number, row, column, 0, 0, 0, 0, 0]),
-        Answer::Count(count) => print_row([0, 0, 0, count, 0, 0, 0, 0]),
+        } => print_row([0, number, row, column, one, two, three, four]),
+        Answer::Count(count) => {
+            let none = shown(table, 0);
+            let last = shown(table, LARGEST);
+            print_row([count, none, one, two, three, four, last, 0])
+        }
     }
-}
-
-// Judges a table, and counts the rows that are shown of each storey.
-fn run_judged(table: &[u32]) {
-    print_answer(survey::judge(table));
-    print_row([
-        shown(table, 0),
-        shown(table, 1),
-        shown(table, 2),
-        shown(table, 3),
-        shown(table, 4),
-        shown(table, LARGEST),
-        0,
-        0,
-    ]);
 }
 
 // Prints a storey, the count of its rows, and the rows.
@@ -103,7 +97,7 @@ fn run_parts(table: &[u32], way: u32) {
 fn run_lengths(table: &[u32]) {
     let mut front = 0;
     while front <= table.len() {
-        print_answer(survey::judge(&table[0..front]));
+        run_judged(&table[0..front]);
         front += 1;
     }
 }
@@ -113,7 +107,7 @@ fn run_large(table: &mut [u32]) {
     while at < table.len() {
         let number = table[at];
         table[at] = LARGEST;
-        print_answer(survey::judge(table));
+        run_judged(table);
         table[at] = number;
         at += 1;
     }
@@ -150,28 +144,32 @@ fn run_table(table: &mut [u32], length: usize, way: u32) {
     run_judged(&table[0..length]);
 }
 
-// Reads a sheet and runs its table; a sheet that is not read prints the refusal.
+// Reads a sheet and runs its table; of a sheet that is not read it prints the refusal's line.
 fn run_sheet(sheet: &[u8], way: u32) {
     let mut table = [0u32; TABLE];
-    let read = sheet::read(sheet, &mut table);
-    match read {
-        Answer::Refused { .. } => print_answer(read),
+    match sheet::read(sheet, &mut table) {
         Answer::Count(rows) => run_table(&mut table, rows as usize * ROW, way),
+        Answer::Refused {
+            number,
+            row,
+            column,
+        } => print_row([0, number, row, column, 0, 0, 0, 0]),
     }
 }
 
+// Runs one file. A file longer than the buffer is cut there, at a length that is still refused.
 fn run(path: &[u8], way: u32) {
+    io::write_all(STDOUT_FILENO, path);
+    io::write_all(STDOUT_FILENO, b"\n");
     let file = os::open_read(path);
     if file < 0 {
         os::fail(path);
         return;
     }
-    let mut sheet = io::large_buffer();
-    let length = io::read_full(file, &mut sheet);
+    let mut bytes = io::large_buffer();
+    let length = io::read_full(file, &mut bytes);
     libc::close(file);
-    io::write_all(STDOUT_FILENO, path);
-    io::write_all(STDOUT_FILENO, b"\n");
-    run_sheet(&sheet[..length], way);
+    run_sheet(&bytes[..length], way);
 }
 
 // Runs one argument, and answers how tables are run from here on.

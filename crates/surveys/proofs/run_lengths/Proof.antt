@@ -11,49 +11,8 @@ Inv-loop table front₀ front = Unit {0}
 abbrev μ-loop : tie.MeasureT-loop
 μ-loop table front₀ front = suc (length table) - front
 
-loop-holds : tie.Need-loop-holds Inv-loop μ-loop
-loop-holds c = search needs
-
-sub-judge : tie.Need-sub-judge Inv-loop μ-loop
-sub-judge c = search needs
-
-part-judge-start : tie.Need-part-judge-start Inv-loop μ-loop
-part-judge-start c = search needs
-
-part-judge-end : tie.Need-part-judge-end Inv-loop μ-loop
-part-judge-end c = search needs
-
-judge-requires : tie.Need-judge-requires Inv-loop μ-loop
-judge-requires c κs = search needs
-
-print-answer-requires : tie.Need-print-answer-requires Inv-loop μ-loop
-print-answer-requires c κs = search needs
-
-add-front : tie.Need-add-front Inv-loop μ-loop
-add-front c = search needs
-
-loop-less : tie.Need-loop-less Inv-loop μ-loop
-loop-less c = search needs
-
-loop-again : tie.Need-loop-again Inv-loop μ-loop
-loop-again c = search needs
-
-returns : tie.Need-returns Inv-loop μ-loop
-returns c = search needs
-
 pub run-lengths-spec : {M : Type 1} → statement M
 run-lengths-spec =
     tie.close
-    (tie.spec
-    Inv-loop
-    μ-loop
-    loop-holds
-    sub-judge
-    part-judge-start
-    part-judge-end
-    judge-requires
-    print-answer-requires
-    add-front
-    loop-less
-    loop-again
-    returns)
+    (tie.spec Inv-loop μ-loop (λ c. search needs) (λ c. search needs) (λ c. search needs) (λ c. search needs) (λ c κs. search needs)
+    (λ c. search needs) (λ c. search needs) (λ c. search needs) (λ c. search needs))
