@@ -1,8 +1,7 @@
 -- Examples by computation: document 01's P1 is a sheet that can be read and a table that can be written, so the round trip speaks of
 -- something; and a line of its report is printed as document 01 prints it. Assumes nothing.
 use mathlib.Core.Path.{_≡_, refl}
-use mathlib.Core.List.{List, [], _∷_}
-use Prim.Native.Nat.{ℕ}
+use mathlib.Core.List.{[], _∷_}
 use Rattle.answer.specs.P1.{p1}
 use Rattle.answer.specs.Told.{counted}
 use Rattle.answer.specs.First.{first}

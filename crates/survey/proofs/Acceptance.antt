@@ -2,26 +2,29 @@
 use mathlib.Core.Path.{_≡_, refl, sym, ap, subst, _∙_}
 use mathlib.Core.Bool.{Bool, true, false, cond, not}
 use mathlib.Core.List.{List}
-use Prim.Native.Nat.{ℕ, _+_, _-_, _*_, _<_, _≤_}
+use Prim.Native.Nat.{ℕ, _+_, _-_, _<_, _≤_}
+use native.Mathlib.Nat.{le-refl}
 use native.Mathlib.Decide.{decLt}
 use native.Mathlib.Omega.{arith}
 use lib.Dec.{eqb, leb, ltb}
+use lib.Bits.{bitAnd}
 use lib.ListN.{length}
-use borrow.Author.Tests.{ltb-true, ltb-false, leb-false, eqb-false, ne-eqb, le-ltb, not-false}
+use borrow.Author.Tests.{eqb-true, ltb-true, ltb-false, leb-false, eqb-false, ne-eqb, le-ltb, not-false}
 use Rattle.answer.specs.declared.Answer.{Answer}
 use Rattle.answer.specs.declared.Answer.the-variants.{Count, Refused}
 use Rattle.answer.specs.Told.{Told, told, counted, refusal, sheet-length, row-out-of-order, mark-on-absent-part}
 use Rattle.answer.specs.First.{first}
 use Rattle.answer.specs.Length.{rowsIn}
 use Rattle.answer.proofs.Refusals.{passed}
-use Rattle.answer.proofs.Places.{before-first, at-first, first-most}
-use Rattle.answer.proofs.Lengths.{Whole, rows-whole}
+use Rattle.answer.proofs.Places.{before-first, at-first}
+use Rattle.answer.proofs.Lengths.{Whole, rows-whole, rows-counted}
 use Rattle.survey.specs.Table.{cell, storeys, endsStorey, firstWall, wallRows, partsRow, rowsDue}
 use Rattle.survey.specs.Ranges.{zone, house, storey, ends, wall, parts}
-use Rattle.survey.specs.Judgement.{fault, faulty, test, _then_, columns, houseFault, storeyFault, endsFault, storeyBefore, mostWalls, wallFault, within, partsFault, rowFault, judging}
-use Rattle.survey.proofs.Cases.{row-house, row-storey, row-ends, row-wall, row-parts, row-after}
+use Rattle.survey.specs.Judgement.{fault, none, faulty, test, _then_, columns, houseFault, storeyFault, endsFault, storeyBefore, mostWalls, wallFault, within, partsFault, rowFault, judging}
+use Rattle.survey.proofs.Faults.{not-faulty}
+use Rattle.survey.proofs.Cases.{ends-right, wall-right, parts-right, row-house, row-storey, row-ends, row-wall, row-parts, row-after}
 use Rattle.survey.proofs.Judged.{judging-accepted}
-use Rattle.survey.proofs.Inside.{Clean, Inside, then-clean, test-clean, columns-inside, house-storeys}
+use Rattle.survey.proofs.Inside.{Clean, Inside, then-clean, test-clean, columns-inside, inside-columns, house-storeys}
 
 -- What an accepted table is made of.
 pub record Accepted (table : List ℕ) : Type 0 where
@@ -174,6 +177,68 @@ module _ (table : List ℕ) (h : (judging table) .number ≡ 0) where
   accepted-count =
       sym (judging-accepted table refl (λ e. omega (arith, right .size)) (λ k l. le-ltb 0 (rowFault table k .number) (right .clean k l)) (right .reaches))
       ∙ ap counted last
+
+-- And the other way: a table made like that is accepted. So the record says no less than acceptance does.
+module _ (table : List ℕ) (a : Accepted table) where
+  storeys-known : (1 ≤ storeys table) × (storeys table ≤ 3)
+  storeys-known = a .house-inside 1 (omega arith)
+
+  house-clear : none ≡ rowFault table 0
+  unfolding houseFault
+  house-clear = inside-columns 1 (house table) table 0 (omega arith) (a .house-inside) ∙ row-house table
+
+  storey-clear : (row : ℕ) → 0 < row → row ≤ storeys table → none ≡ rowFault table row
+  unfolding storeyFault
+  storey-clear row some most =
+      inside-columns 2 (storey row) table row (omega arith) (a .storey-inside row some most) ∙ row-storey table row some most
+
+  ends-clear : (row : ℕ) → storeys table < row → row < firstWall table → none ≡ rowFault table row
+  ends-clear row above before =
+      ends-right table row (inside-columns 3 (ends table row) table row (omega arith) (a .ends-inside row above before)) (le-refl 0) (a .ends-fit row above before)
+      ∙ row-ends table row (omega arith) above before
+
+  storey-rises : (row : ℕ) → firstWall table ≤ row → row < partsRow table → storeyBefore table row ≤ cell table row 1
+  unfolding storeyBefore
+  storey-rises row past before = go (eqb row (firstWall table)) refl
+    where
+      go : (b : Bool) → eqb row (firstWall table) ≡ b → cond b 0 (cell table (row - 1) 1) ≤ cell table row 1
+      go true e = omega arith
+      go false e =
+          let first = eqb-false row (firstWall table) e in
+          let next : row - 1 + 1 ≡ row = omega (arith, first) in
+          rw next at (a .sorted (row - 1) (omega (arith, first)) (omega (arith, first)))
+
+  wall-clear : (row : ℕ) → firstWall table ≤ row → row < partsRow table → none ≡ rowFault table row
+  wall-clear row past before =
+      wall-right table row (storey-rises row past before) (inside-columns 1 (wall table row) table row (omega arith) (a .wall-inside row past before)) (le-refl 0) (omega (arith, a .few))
+      ∙ row-wall table row (omega arith) (omega (arith, storeys-known)) past before
+
+  parts-clear : none ≡ rowFault table (partsRow table)
+  unfolding within
+  parts-clear =
+      let row = partsRow table in
+      parts-right table row (inside-columns 1 parts table row (omega arith) (a .parts-inside)) (le-refl 0)
+      (eqb-true (bitAnd (cell table row 2) (cell table row 1)) (cell table row 2) (a .marks-present)) (λ e. omega (arith, a .some-present))
+      ∙ row-parts table row (omega arith) (omega (arith, storeys-known)) (omega arith) refl
+
+  all-clear : (row : ℕ) → row < rowsDue table → none ≡ rowFault table row
+  all-clear row h = go (decLt 0 row) (decLt (storeys table) row) (decLt row (firstWall table)) (decLt row (partsRow table))
+    where
+      go : Dec (0 < row) → Dec (storeys table < row) → Dec (row < firstWall table) → Dec (row < partsRow table) → none ≡ rowFault table row
+      go (no p) _ _ _ =
+          let first : row ≡ 0 = omega arith in
+          rw first house-clear
+      go (yes p) (no q) _ _ = storey-clear row p (omega arith)
+      go (yes p) (yes q) (yes r) _ = ends-clear row q r
+      go (yes p) (yes q) (no r) (yes s) = wall-clear row (omega arith) s
+      go (yes p) (yes q) (no r) (no s) =
+          let last : row ≡ partsRow table = omega arith in
+          rw last parts-clear
+
+  pub made-accepted : judging table ≡ counted (rowsDue table)
+  made-accepted =
+      sym (judging-accepted table (rows-counted 8 (a .sizes .whole) (omega arith) (a .sizes .most)) (λ e. omega arith)
+      (λ row l. not-faulty (rowFault table row) (all-clear row l) (le-refl 0)) (le-refl (rowsDue table)))
 
 -- The two ways out of judging.
 module _ (table : List ℕ) {answer : Answer} (judged : told answer ≡ judging table) where

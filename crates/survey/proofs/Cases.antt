@@ -9,7 +9,7 @@ use lib.Bits.{bitAnd}
 use borrow.Author.Tests.{eq-eqb, ne-eqb, lt-ltb, le-ltb, le-leb, lt-leb}
 use Rattle.answer.specs.Told.{row-out-of-order, out-of-range, too-many-walls, ends-exceed-storey, mark-on-absent-part, no-parts}
 use Rattle.survey.specs.declared.fault.Fault.{Fault}
-use Rattle.survey.specs.Table.{cell, storeys, endsStorey, firstWall, wallRows, partsRow}
+use Rattle.survey.specs.Table.{cell, storeys, endsStorey, firstWall, partsRow}
 use Rattle.survey.specs.Ranges.{ends, wall, parts}
 use Rattle.survey.specs.Judgement.{fault, none, wrongColumn, columns, endsFault, storeyBefore, mostWalls, wallFault, within, partsFault, houseFault, storeyFault, rowFault}
 use Rattle.survey.proofs.Faults.{found, passed, held, clear, test-finds, test-passes}
@@ -47,9 +47,9 @@ module _ (table : List ℕ) (row : ℕ) {f : Fault} where
       unfolding endsFault
       ends-exceed h = passed _ _ ranged clean (held _ (lt-ltb _ _ h))
 
-      pub ends-fit : cell table row 3 + cell table row 4 ≤ cell table (endsStorey table row) 2 → none ≡ endsFault table row
+      pub ends-right : cell table row 3 + cell table row 4 ≤ cell table (endsStorey table row) 2 → none ≡ endsFault table row
       unfolding endsFault
-      ends-fit h = passed _ _ ranged clean (clear _ (le-ltb _ _ h))
+      ends-right h = passed _ _ ranged clean (clear _ (le-ltb _ _ h))
 
   module _ (rises : storeyBefore table row ≤ cell table row 1) (ranged : f ≡ columns 1 (wall table row) table row) where
     pub wall-columns : 0 < f .number → f ≡ wallFault table row

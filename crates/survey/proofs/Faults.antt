@@ -1,10 +1,9 @@
 -- The laws of faults: the first of two tests, and a test by what it asks. Assumes nothing.
-use mathlib.Core.Path.{_≡_, refl}
+use mathlib.Core.Path.{_≡_}
 use mathlib.Core.Bool.{Bool, true, false}
 use mathlib.Core.List.{List}
 use Prim.Native.Nat.{ℕ, _<_, _≤_}
 use native.Mathlib.Nat.{le-refl}
-use lib.Dec.{ltb}
 use lib.ListN.{getD}
 use borrow.Author.Tests.{lt-ltb, le-ltb}
 use Rattle.survey.specs.declared.fault.Fault.{Fault}
@@ -30,8 +29,8 @@ unfolding test
 clear f e = rw e
 
 -- No fault.
-pub faultless : {f : Fault} (g : Fault) → f ≡ g → f .number ≤ 0 → faulty g ≡ false
-faultless {f} g e h = rw (← e) (le-ltb 0 (f .number) h)
+pub not-faulty : {f : Fault} (g : Fault) → f ≡ g → f .number ≤ 0 → faulty g ≡ false
+not-faulty {f} g e h = rw (← e) (le-ltb 0 (f .number) h)
 
 -- A test, and those after it.
 pub test-finds : {holds : Bool} (f later : Fault) → holds ≡ true → 0 < f .number → f ≡ test holds f then later

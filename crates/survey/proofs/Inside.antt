@@ -1,18 +1,21 @@
 -- What a row without a fault holds: every number lies in its column's range. Assumes nothing.
-use mathlib.Core.Path.{_≡_, refl, subst}
+use mathlib.Core.Path.{_≡_, refl, sym, subst}
 use mathlib.Core.Bool.{Bool, true, false, cond, _||_}
 use mathlib.Core.List.{List}
 use Prim.Native.Nat.{ℕ, _<_, _≤_}
+use native.Mathlib.Nat.{le-refl}
 use native.Mathlib.Omega.{arith}
 use lib.Dec.{T, ltb}
 use lib.ListN.{getD}
 use borrow.Author.Tests.{ltb-true, ltb-false}
 use Rattle.answer.specs.First.{first}
-use Rattle.answer.proofs.Places.{before-first}
+use Rattle.answer.proofs.Places.{before-first, first-none}
 use Rattle.survey.specs.declared.fault.Fault.{Fault}
 use Rattle.survey.specs.Table.{cell, storeys}
 use Rattle.survey.specs.Ranges.{Range, lows, highs, house}
-use Rattle.survey.specs.Judgement.{fault, faulty, _then_, test, outside, leftmost, wrongColumn, columns, houseFault}
+use Rattle.survey.specs.Judgement.{fault, none, _then_, test, outside, leftmost, wrongColumn, columns, houseFault}
+use Rattle.survey.proofs.Faults.{inside}
+use Rattle.survey.proofs.Cases.{column-none}
 
 -- No fault.
 abbrev pub Clean : Fault → Type 0
@@ -51,6 +54,16 @@ columns-inside due ranges table row h column inside =
     let past = ltb-false last 8 (test-clean (ltb last 8) _ (omega arith) (then-clean (test (ltb last due) (fault 3 1)) _ h .1)) in
     let both = or-false (ltb (cell table row column) (getD low column 0)) _ (before-first (outside low high table row) 8 column (omega arith)) in
     (ltb-false (cell table row column) _ (both .0), ltb-false _ (cell table row column) (both .1))
+
+-- And the other way: a row whose numbers lie in their ranges has neither refusal 3 nor 4.
+pub inside-columns : (due : ℕ) (ranges : List Range) (table : List ℕ) (row : ℕ) → due ≤ 8 → Inside ranges table row
+    → none ≡ columns due ranges table row
+unfolding leftmost
+inside-columns due ranges table row few within-ranges =
+    let low = lows ranges in
+    let high = highs ranges in
+    let last : 8 ≡ first (outside low high table row) 8 = sym (first-none (outside low high table row) 8 (λ k l. inside low high table row k refl (within-ranges k l .0) (within-ranges k l .1))) in
+    rw (← last) (column-none due 8 few (le-refl 8))
 
 -- A house row without a fault has one to three storeys.
 pub house-storeys : (table : List ℕ) → Clean (houseFault table) → (1 ≤ storeys table) × (storeys table ≤ 3)

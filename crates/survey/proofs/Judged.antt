@@ -1,17 +1,16 @@
 -- What judging a table answers, case by case in the order of its tests. Assumes nothing.
-use mathlib.Core.Path.{_≡_, refl}
+use mathlib.Core.Path.{_≡_}
 use mathlib.Core.Bool.{false}
 use mathlib.Core.List.{List}
 use Prim.Native.Nat.{ℕ, _+_, _<_, _≤_}
-use lib.ListN.{length}
-use borrow.Author.Tests.{eq-eqb, ne-eqb, lt-ltb, le-ltb, le-leb, lt-leb}
 use native.Mathlib.Nat.{le-refl}
+use lib.ListN.{length}
+use borrow.Author.Tests.{eq-eqb, ne-eqb, lt-ltb, le-ltb}
 use Rattle.answer.specs.Told.{counted, refusal, sheet-length, row-out-of-order}
-use Rattle.answer.specs.First.{first}
 use Rattle.answer.specs.Length.{rowsIn}
 use Rattle.answer.proofs.Places.{first-is, first-none}
 use Rattle.survey.specs.declared.fault.Fault.{Fault}
-use Rattle.survey.specs.Table.{wallRows, rowsDue}
+use Rattle.survey.specs.Table.{rowsDue}
 use Rattle.survey.specs.Judgement.{fault, faulty, rowFault, judging}
 
 module _ (table : List ℕ) {rows : ℕ} (so-many : rows ≡ rowsIn 8 (length table)) where

@@ -1,16 +1,15 @@
 -- A storey's walls: in an accepted table the first run of them is all of them. Assumes nothing.
 use mathlib.Core.Path.{_≡_, refl, sym, ap, subst, _∙_}
-use mathlib.Core.Bool.{Bool, true, false, cond, not, _&&_}
-use mathlib.Core.List.{List, [], _∷_, _++_, append-nil, append-assoc}
+use mathlib.Core.Bool.{Bool, true, false, not, _&&_}
+use mathlib.Core.List.{List, [], _++_, append-nil, append-assoc}
 use Prim.Native.Nat.{ℕ, zero, suc, _+_, _-_, _*_, _/_, _<_, _≤_}
-use native.Mathlib.Nat.{mul-suc, mul-zero, not-suc-le-zero, add-zero, add-suc, zero-add, le-refl, le-trans}
-use native.Mathlib.Numerals.{add-one}
-use native.Mathlib.Decide.{decLt, le-ind}
+use native.Mathlib.Nat.{mul-suc, add-zero, add-suc, zero-add, le-refl, le-trans}
+use native.Mathlib.Decide.{decLt}
 use native.Mathlib.Omega.{arith}
-use lib.Dec.{T, eqb}
+use lib.Dec.{T}
 use lib.ListN.{length, getD, take, drop, length-take, length-drop}
 use lib.Seq.{take-add, drop-drop, getD-take, getD-drop}
-use borrow.Author.Tests.{eqb-true, eqb-false, eq-eqb, ne-eqb, not-true, not-false}
+use borrow.Author.Tests.{eqb-true, eq-eqb, ne-eqb, not-true, not-false}
 use Rattle.answer.specs.First.{first}
 use Rattle.answer.proofs.Places.{before-first, at-first, first-most}
 use Rattle.survey.specs.Table.{cell, isWall, storeys, firstWall, partsRow}
@@ -91,7 +90,7 @@ module _ (table : List ℕ) (h : (judging table) .number ≡ 0) where
           absurd (omega (arith, a .parts-inside 0 (omega arith), rw last at kind))
 
   -- Storeys never fall, however far apart two walls are.
-  rises : (row n : ℕ) → firstWall table ≤ row → row + n < partsRow table → cell table row 1 ≤ cell table (row + n) 1
+  pub rises : (row n : ℕ) → firstWall table ≤ row → row + n < partsRow table → cell table row 1 ≤ cell table (row + n) 1
   rises row zero past before = rw add-zero (le-refl _)
   rises row (suc n) past before =
       let next : row + suc n ≡ row + n + 1 = omega arith in

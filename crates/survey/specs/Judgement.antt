@@ -1,6 +1,6 @@
 -- Which refusal a table gets. Document 01, "What a refused sheet is told": scoring tests "1, then each row from the top for 3, 4, 5, 6,
 -- 7, 8 in that order (4 names the leftmost column; 3 and 5 name column 1)".
-use Prim.Native.Nat.{ℕ, _+_, _-_, _*_}
+use Prim.Native.Nat.{ℕ, _+_, _-_}
 use mathlib.Core.Bool.{Bool, cond, not, _||_}
 use mathlib.Core.List.{List}
 use lib.ListN.{length, getD}

@@ -1,7 +1,7 @@
 -- A table's numbers, and where its rows stand. Document 01, "The sheet and the table": "32-bit numbers, eight to a row"; the house, its
 -- storeys from the ground up, ends for each storey and direction, walls, and one parts row. Rows and columns count from 0 here.
 use Prim.Native.Nat.{ℕ, _+_, _-_, _*_, _/_, _%_}
-use mathlib.Core.Bool.{Bool, cond, not}
+use mathlib.Core.Bool.{Bool, not}
 use mathlib.Core.List.{List}
 use lib.ListN.{length, getD}
 use lib.Dec.{eqb}

@@ -2,6 +2,7 @@
 use crate::fault::Fault;
 use crate::fault::cell;
 use crate::fault::fault_at;
+use crate::fault::is_wall;
 use crate::rows::ends_fault;
 use crate::rows::house_fault;
 use crate::rows::parts_fault;
@@ -28,7 +29,7 @@ fn parts_row(table: &[u32], rows: usize, first: usize) -> usize
 {
     let mut walls = 0;
     while first + walls < rows {
-        if cell(table, first + walls, 0) != 4 {
+        if !is_wall(table, first + walls) {
             return first + walls;
         }
         walls += 1;

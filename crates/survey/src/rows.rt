@@ -36,6 +36,7 @@ fn zone(number: u32) -> u32
     100
 }
 
+// The house row.
 pub(crate) fn house_fault(table: &[u32]) -> Fault
     requires { ⌜ 8 ≤ length (now table) ⌝ }
     ensures { λ r. ⌜ r ≡ houseFault (now (table .entry)) ⌝ }
@@ -50,6 +51,7 @@ pub(crate) fn house_fault(table: &[u32]) -> Fault
     )
 }
 
+// A storey's row, which is the row of its number.
 pub(crate) fn storey_fault(table: &[u32], row: usize) -> Fault
     requires { ⌜ row ≤ 3 ⌝ }
     requires { ⌜ 8 * row + 8 ≤ length (now table) ⌝ }
@@ -65,14 +67,14 @@ pub(crate) fn storey_fault(table: &[u32], row: usize) -> Fault
     )
 }
 
-// A number where a sum of two fits.
+// A number in a type where the sum of two fits.
 fn wide(number: u32) -> usize
     ensures { λ r. ⌜ r ≡ number ⌝ }
 {
     number as usize
 }
 
-// `storeys` are the house's.
+// A row of ends. `storeys` are the house's.
 pub(crate) fn ends_fault(table: &[u32], storeys: usize, row: usize) -> Fault
     requires { ⌜ (storeys ≡ cell (now table) 0 1) × (storeys ≤ 3) × (storeys < row) × (row ≤ 9) ⌝ }
     requires { ⌜ 8 * row + 8 ≤ length (now table) ⌝ }
@@ -145,7 +147,7 @@ fn wall_columns(table: &[u32], storeys: u32, row: usize) -> Fault
     )
 }
 
-// `storeys` are the house's, and `first` is the first wall's row.
+// A wall row. `storeys` are the house's, and `first` is the first wall's row.
 pub(crate) fn wall_fault(table: &[u32], storeys: u32, first: usize, row: usize) -> Fault
     requires { ⌜ storeys ≡ cell (now table) 0 1 ⌝ }
     requires { ⌜ (first ≡ firstWall (now table)) × (first ≤ 10) × (first ≤ row) ⌝ }
@@ -165,6 +167,7 @@ pub(crate) fn wall_fault(table: &[u32], storeys: u32, first: usize, row: usize) 
     no_fault()
 }
 
+// The parts row.
 pub(crate) fn parts_fault(table: &[u32], row: usize) -> Fault
     requires { ⌜ 8 * row + 8 ≤ length (now table) ⌝ }
     ensures { λ r. ⌜ r ≡ partsFault (now (table .entry)) row ⌝ }

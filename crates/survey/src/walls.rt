@@ -1,5 +1,6 @@
 // A storey's walls, as a part of the lent table.
 use crate::fault::cell;
+use crate::fault::is_wall;
 use crate::judgement::judge;
 use answer::Answer;
 use answer::ROW;
@@ -13,7 +14,7 @@ fn is_wall_of(table: &[u32], storey: u32, row: usize) -> bool
     requires { ⌜ 8 * row + 8 ≤ length (now table) ⌝ }
     ensures { λ r. ⌜ r ≡ isWallOf (now (table .entry)) storey row ⌝ }
 {
-    if cell(table, row, 0) != 4 {
+    if !is_wall(table, row) {
         return false;
     }
     cell(table, row, 1) == storey

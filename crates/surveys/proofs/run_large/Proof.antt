@@ -1,7 +1,7 @@
 -- `surveys::run_large` is safe and ends: the measure is the numbers that are left. Assumes nothing.
 use mathlib.Core.Path.{_≡_}
-use lib.ListN.{length}
 use Prim.Native.Nat.{_-_}
+use lib.ListN.{length}
 use borrow.Author.Needs.{needs}
 use Rattle.surveys.proofs.run_large.Statement.{statement}
 use Rattle.surveys.proofs.run_large.Tie as tie

@@ -1,6 +1,6 @@
 -- `surveys::run_lengths` is safe and ends: the measure is the fronts that are left. Assumes nothing.
-use lib.ListN.{length}
 use Prim.Native.Nat.{_-_, suc}
+use lib.ListN.{length}
 use borrow.Author.Needs.{needs}
 use Rattle.surveys.proofs.run_lengths.Statement.{statement}
 use Rattle.surveys.proofs.run_lengths.Tie as tie

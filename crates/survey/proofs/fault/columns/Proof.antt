@@ -1,11 +1,7 @@
 -- `survey::fault::columns` meets its contract. Assumes nothing.
-use Rattle.survey.proofs.Cases.{column-due, column-outside, column-none}
 use mathlib.Core.Path.{_∙_}
-use native.Mathlib.Omega.{arith}
-use borrow.Author.Tests.{lt-ltb, le-ltb}
-use Rattle.survey.proofs.Faults.{found, passed, held, clear}
-use Rattle.survey.specs.Judgement.{wrongColumn}
 use borrow.Author.Needs.{needs}
+use Rattle.survey.proofs.Cases.{column-due, column-outside, column-none}
 use Rattle.survey.proofs.fault.columns.Statement.{statement}
 use Rattle.survey.proofs.fault.columns.Tie as tie
 

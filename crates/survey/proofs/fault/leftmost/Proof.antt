@@ -1,12 +1,12 @@
 -- `survey::fault::leftmost` meets its contract. The loop's invariant: every column before lies in its range. Assumes nothing.
-use Rattle.survey.proofs.Faults.{too-low, too-high, inside}
-use Rattle.survey.specs.Judgement.{outside, leftmost}
-use Rattle.answer.proofs.Places.{first-is, first-end}
+use mathlib.Core.Path.{_≡_, sym}
+use mathlib.Core.Bool.{false}
+use Prim.Native.Nat.{ℕ, _-_, _<_, _≤_}
 use borrow.Author.Needs.{needs}
 use borrow.Author.Count.{below-none, below-more}
-use Prim.Native.Nat.{ℕ, _-_, _<_, _≤_}
-use mathlib.Core.Bool.{false}
-use mathlib.Core.Path.{_≡_, sym}
+use Rattle.answer.proofs.Places.{first-is, first-end}
+use Rattle.survey.specs.Judgement.{outside, leftmost}
+use Rattle.survey.proofs.Faults.{too-low, too-high, inside}
 use Rattle.survey.proofs.fault.leftmost.Statement.{statement}
 use Rattle.survey.proofs.fault.leftmost.Tie as tie
 

@@ -1,18 +1,18 @@
 -- `survey::judgement::judge` meets its contract: each return is one case of judging. Assumes nothing.
-use Rattle.survey.proofs.Faults.{faultless}
-use Rattle.survey.proofs.Inside.{columns-inside, Clean, house-storeys}
-use Rattle.survey.proofs.Cases.{row-house}
-use Rattle.survey.proofs.Judged.{judging-length, judging-fault, judging-short, judging-accepted}
-use Rattle.survey.specs.Judgement.{faulty, rowFault, houseFault}
-use Rattle.answer.proofs.Lengths.{Whole, rows-whole}
+use mathlib.Core.Path.{_≡_, _∙_, ap}
+use mathlib.Core.Bool.{false}
+use Prim.Native.Nat.{ℕ, _-_, _<_, _≤_, _+_, _*_}
+use native.Mathlib.Omega.{arith}
+use denote.Ref.{now}
+use lib.ListN.{length}
 use borrow.Author.Count.{below-none, below-more}
 use borrow.Author.Needs.{needs}
-use lib.ListN.{length}
-use denote.Ref.{now}
-use native.Mathlib.Omega.{arith}
-use Prim.Native.Nat.{ℕ, _-_, _<_, _≤_, _+_, _*_}
-use mathlib.Core.Bool.{false}
-use mathlib.Core.Path.{_≡_, _∙_, ap}
+use Rattle.answer.proofs.Lengths.{Whole, rows-whole}
+use Rattle.survey.specs.Judgement.{faulty, rowFault, houseFault}
+use Rattle.survey.proofs.Faults.{not-faulty}
+use Rattle.survey.proofs.Cases.{row-house}
+use Rattle.survey.proofs.Judged.{judging-length, judging-fault, judging-short, judging-accepted}
+use Rattle.survey.proofs.Inside.{Clean, house-storeys}
 use Rattle.survey.proofs.judgement.judge.Statement.{statement}
 use Rattle.survey.proofs.judgement.judge.Tie as tie
 
@@ -71,7 +71,7 @@ loop-holds : tie.Need-loop-holds Inv-loop μ-loop
 loop-holds c =
     let at-if2 = c .before .before in
     let at-house = at-if2 .before .before in
-    (omega arith, omega (arith, whole (at-house .before)), below-more _ 0 (below-none _) (faultless _ (at-house .house-fault .ensures ∙ row-house _) (at-if2 .if2 .left)))
+    (omega arith, omega (arith, whole (at-house .before)), below-more _ 0 (below-none _) (not-faulty _ (at-house .house-fault .ensures ∙ row-house _) (at-if2 .if2 .left)))
 
 row-fault-requires : tie.Need-row-fault-requires Inv-loop μ-loop
 row-fault-requires c κs =
@@ -100,7 +100,7 @@ loop-less c = search needs
 loop-again : tie.Need-loop-again Inv-loop μ-loop
 loop-again c =
     let at-row = c .before .before in
-    (omega arith, omega arith, below-more _ _ (at-row .before .before .loop .inv .2) (faultless _ (at-row .row-fault .ensures) (c .if3 .left)))
+    (omega arith, omega arith, below-more _ _ (at-row .before .before .loop .inv .2) (not-faulty _ (at-row .row-fault .ensures) (c .if3 .left)))
 
 -- No row has a fault.
 clean : (c : tie.After-loop Inv-loop μ-loop) (k : ℕ) → k < c .before .before .before .before .before .before .before .before .rows-in .result

@@ -1,14 +1,13 @@
 -- `survey::judgement::parts_row` meets its contract. The loop's invariant: every row before is a wall. Assumes nothing.
-use borrow.Author.Tests.{eq-eqb, ne-eqb}
+use mathlib.Core.Path.{_≡_}
+use mathlib.Core.Bool.{false, not}
+use Prim.Native.Nat.{ℕ, _-_, _+_, _<_, _≤_}
 use native.Mathlib.Omega.{arith}
 use denote.Ref.{now}
-use Rattle.survey.proofs.Positions.{parts-row-is, no-wall-beyond}
-use Rattle.survey.specs.Table.{isWall}
 use borrow.Author.Needs.{needs}
 use borrow.Author.Count.{below-none, below-more}
-use Prim.Native.Nat.{ℕ, _-_, _+_, _<_, _≤_}
-use mathlib.Core.Bool.{false, not}
-use mathlib.Core.Path.{_≡_, sym, _∙_}
+use Rattle.survey.specs.Table.{isWall}
+use Rattle.survey.proofs.Positions.{parts-row-is, no-wall-beyond}
 use Rattle.survey.proofs.judgement.parts_row.Statement.{statement}
 use Rattle.survey.proofs.judgement.parts_row.Tie as tie
 
@@ -24,21 +23,21 @@ loop-holds c = (search needs, below-none _)
 add-loop : tie.Need-add-loop Inv-loop μ-loop
 add-loop c = search needs
 
-add-cell : tie.Need-add-cell Inv-loop μ-loop
-add-cell c = search needs
+add-is-wall : tie.Need-add-is-wall Inv-loop μ-loop
+add-is-wall c = search needs
 
-cell-requires : tie.Need-cell-requires Inv-loop μ-loop
-cell-requires c κs = search needs
+is-wall-requires : tie.Need-is-wall-requires Inv-loop μ-loop
+is-wall-requires c κs = search needs
 
 add-result : tie.Need-add-result Inv-loop μ-loop
 add-result c = search needs
 
 returns : tie.Need-returns Inv-loop μ-loop
 returns c =
-    let at-cell = c .before in
-    let at-entry = at-cell .before .before .before .before in
-    parts-row-is (now (at-entry .args .table)) (at-entry .pre .1 .0) (omega arith) (at-cell .before .before .loop .inv .1)
-    (rw (← at-cell .cell .ensures, ne-eqb (at-cell .cell .result) 4 (c .if1 .taken)))
+    let at-test = c .before in
+    let at-entry = at-test .before .before .before .before in
+    parts-row-is (now (at-entry .args .table)) (at-entry .pre .1 .0) (omega arith) (at-test .before .before .loop .inv .1)
+    (rw (← at-test .is-wall .ensures) (c .if1 .taken))
 
 add-walls : tie.Need-add-walls Inv-loop μ-loop
 add-walls c = search needs
@@ -48,8 +47,8 @@ loop-less c = search needs
 
 loop-again : tie.Need-loop-again Inv-loop μ-loop
 loop-again c =
-    let at-cell = c .before in
-    (search needs, below-more _ _ (at-cell .before .before .loop .inv .1) (rw (← at-cell .cell .ensures, eq-eqb (at-cell .cell .result) 4 (c .if1 .left))))
+    let at-test = c .before in
+    (search needs, below-more _ _ (at-test .before .before .loop .inv .1) (rw (← at-test .is-wall .ensures) (c .if1 .left)))
 
 add-result-2 : tie.Need-add-result-2 Inv-loop μ-loop
 add-result-2 c = search needs
@@ -69,8 +68,8 @@ parts-row-spec =
     μ-loop
     loop-holds
     add-loop
-    add-cell
-    cell-requires
+    add-is-wall
+    is-wall-requires
     add-result
     returns
     add-walls

@@ -1,11 +1,11 @@
 -- `survey::judgement::row_fault` meets its contract: each return is a place where a row can stand. Assumes nothing.
-use Rattle.survey.specs.Table.{cell, storeys, firstWall, partsRow}
-use denote.Ref.{now}
-use Prim.Native.Nat.{_<_, _≤_}
-use Rattle.survey.proofs.Cases.{row-storey, row-ends, row-wall, row-parts, row-after}
-use native.Mathlib.Omega.{arith}
 use mathlib.Core.Path.{_∙_, _≡_}
+use Prim.Native.Nat.{_<_, _≤_}
+use native.Mathlib.Omega.{arith}
+use denote.Ref.{now}
 use borrow.Author.Needs.{needs}
+use Rattle.survey.specs.Table.{storeys, firstWall, partsRow}
+use Rattle.survey.proofs.Cases.{row-storey, row-ends, row-wall, row-parts, row-after}
 use Rattle.survey.proofs.judgement.row_fault.Statement.{statement}
 use Rattle.survey.proofs.judgement.row_fault.Tie as tie
 

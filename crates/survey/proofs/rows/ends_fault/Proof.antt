@@ -1,13 +1,11 @@
 -- `survey::rows::ends_fault` meets its contract: each return is a test in its order. Assumes nothing.
-use Rattle.survey.specs.Ranges.{ends}
-use denote.Ref.{now}
-use Rattle.survey.proofs.Cases.{ends-columns, ends-exceed, ends-fit}
 use mathlib.Core.Path.{_∙_, _≡_}
 use native.Mathlib.Omega.{arith}
-use borrow.Author.Tests.{lt-ltb, le-ltb}
-use Rattle.survey.proofs.Faults.{found, passed, held, clear}
-use Rattle.survey.specs.Judgement.{endsFault, columns}
+use denote.Ref.{now}
 use borrow.Author.Needs.{needs}
+use Rattle.survey.specs.Ranges.{ends}
+use Rattle.survey.specs.Judgement.{columns}
+use Rattle.survey.proofs.Cases.{ends-columns, ends-exceed, ends-right}
 use Rattle.survey.proofs.rows.ends_fault.Statement.{statement}
 use Rattle.survey.proofs.rows.ends_fault.Tie as tie
 
@@ -79,7 +77,7 @@ no-fault-requires c κs = search needs
 returns-3 : tie.Need-returns-3
 returns-3 c =
     let at-if1 = c .before .before .before .before .before .before .before .before in
-    c .no-fault .ensures ∙ ends-fit _ _ (ranged (at-if1 .before .before)) (at-if1 .if1 .left)
+    c .no-fault .ensures ∙ ends-right _ _ (ranged (at-if1 .before .before)) (at-if1 .if1 .left)
     (rw (← at-if1 .before .before .before .before .pre .0 .0) (omega arith))
 
 pub ends-fault-spec : {M : Type 1} → statement M

@@ -1,9 +1,6 @@
 -- `survey::rows::house_fault` meets its contract. Assumes nothing.
-use native.Mathlib.Omega.{arith}
-use borrow.Author.Tests.{lt-ltb, le-ltb}
-use Rattle.survey.proofs.Faults.{found, passed, held, clear}
-use Rattle.survey.specs.Judgement.{houseFault}
 use borrow.Author.Needs.{needs}
+use Rattle.survey.specs.Judgement.{houseFault}
 use Rattle.survey.proofs.rows.house_fault.Statement.{statement}
 use Rattle.survey.proofs.rows.house_fault.Tie as tie
 

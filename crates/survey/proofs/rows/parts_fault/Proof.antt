@@ -1,14 +1,11 @@
 -- `survey::rows::parts_fault` meets its contract: each return is a test in its order. Assumes nothing.
-use Rattle.survey.specs.Table.{cell}
-use lib.Bits.{bitAnd}
-use denote.Ref.{now}
-use Rattle.survey.proofs.Cases.{parts-columns, parts-absent, parts-none, parts-right}
 use mathlib.Core.Path.{_∙_, _≡_}
 use native.Mathlib.Omega.{arith}
-use borrow.Author.Tests.{lt-ltb, le-ltb}
-use Rattle.survey.proofs.Faults.{found, passed, held, clear}
-use Rattle.survey.specs.Judgement.{partsFault}
+use denote.Ref.{now}
+use lib.Bits.{bitAnd}
 use borrow.Author.Needs.{needs}
+use Rattle.survey.specs.Table.{cell}
+use Rattle.survey.proofs.Cases.{parts-columns, parts-absent, parts-none, parts-right}
 use Rattle.survey.proofs.rows.parts_fault.Statement.{statement}
 use Rattle.survey.proofs.rows.parts_fault.Tie as tie
 

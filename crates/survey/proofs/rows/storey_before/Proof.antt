@@ -1,9 +1,8 @@
 -- `survey::rows::storey_before` meets its contract. Assumes nothing.
 use mathlib.Core.Path.{sym, _∙_}
-use Rattle.survey.specs.Judgement.{storeyBefore}
-use native.Mathlib.Omega.{arith}
 use borrow.Author.Tests.{eq-eqb, ne-eqb}
 use borrow.Author.Needs.{needs}
+use Rattle.survey.specs.Judgement.{storeyBefore}
 use Rattle.survey.proofs.rows.storey_before.Statement.{statement}
 use Rattle.survey.proofs.rows.storey_before.Tie as tie
 

@@ -1,9 +1,6 @@
 -- `survey::rows::storey_fault` meets its contract. Assumes nothing.
-use native.Mathlib.Omega.{arith}
-use borrow.Author.Tests.{lt-ltb, le-ltb}
-use Rattle.survey.proofs.Faults.{found, passed, held, clear}
-use Rattle.survey.specs.Judgement.{storeyFault}
 use borrow.Author.Needs.{needs}
+use Rattle.survey.specs.Judgement.{storeyFault}
 use Rattle.survey.proofs.rows.storey_fault.Statement.{statement}
 use Rattle.survey.proofs.rows.storey_fault.Tie as tie
 

@@ -1,14 +1,11 @@
 -- `survey::rows::wall_fault` meets its contract: each return is a test in its order. Assumes nothing.
-use Rattle.survey.specs.Table.{cell}
-use denote.Ref.{now}
+use mathlib.Core.Path.{_∙_}
 use Prim.Native.Nat.{_≤_}
-use Rattle.survey.proofs.Cases.{wall-falls, wall-columns, wall-too-many, wall-right}
-use mathlib.Core.Path.{_∙_, _≡_}
-use native.Mathlib.Omega.{arith}
-use borrow.Author.Tests.{lt-ltb, le-ltb}
-use Rattle.survey.proofs.Faults.{found, passed, held, clear}
-use Rattle.survey.specs.Judgement.{wallFault, storeyBefore}
+use denote.Ref.{now}
 use borrow.Author.Needs.{needs}
+use Rattle.survey.specs.Table.{cell}
+use Rattle.survey.specs.Judgement.{storeyBefore}
+use Rattle.survey.proofs.Cases.{wall-falls, wall-columns, wall-too-many, wall-right}
 use Rattle.survey.proofs.rows.wall_fault.Statement.{statement}
 use Rattle.survey.proofs.rows.wall_fault.Tie as tie
 

@@ -1,6 +1,6 @@
 -- `survey::rows::zone` meets its contract. Assumes nothing.
-use Rattle.survey.specs.Ranges.{zone}
 use borrow.Author.Tests.{eq-eqb, ne-eqb}
+use Rattle.survey.specs.Ranges.{zone}
 use Rattle.survey.proofs.rows.zone.Statement.{statement}
 use Rattle.survey.proofs.rows.zone.Tie as tie
 

@@ -1,12 +1,11 @@
 -- `survey::walls::run_length` meets its contract. The loop's invariant: every row before is a wall of the storey. Assumes nothing.
-use Rattle.survey.specs.Walls.{isWallOf, runLength}
-use Rattle.answer.proofs.Places.{first-is, first-end}
+use mathlib.Core.Path.{_≡_, sym}
+use mathlib.Core.Bool.{false, not}
+use Prim.Native.Nat.{ℕ, _-_, _+_, _<_, _≤_}
 use borrow.Author.Needs.{needs}
 use borrow.Author.Count.{below-none, below-more}
-use lib.ListN.{length}
-use Prim.Native.Nat.{ℕ, _-_, _+_, _/_, _<_, _≤_}
-use mathlib.Core.Bool.{false, not}
-use mathlib.Core.Path.{_≡_, sym, _∙_, ap}
+use Rattle.answer.proofs.Places.{first-is, first-end}
+use Rattle.survey.specs.Walls.{isWallOf, runLength}
 use Rattle.survey.proofs.walls.run_length.Statement.{statement}
 use Rattle.survey.proofs.walls.run_length.Tie as tie
 

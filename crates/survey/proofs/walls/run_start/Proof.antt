@@ -1,12 +1,12 @@
 -- `survey::walls::run_start` meets its contract. The loop's invariant: no row before is a wall of the storey. Assumes nothing.
-use Rattle.survey.specs.Walls.{isWallOf, runStart}
-use Rattle.answer.proofs.Places.{first-is, first-end}
+use mathlib.Core.Path.{_≡_, sym, _∙_}
+use mathlib.Core.Bool.{false}
+use Prim.Native.Nat.{ℕ, _-_, _/_, _<_, _≤_}
+use lib.ListN.{length}
 use borrow.Author.Needs.{needs}
 use borrow.Author.Count.{below-none, below-more}
-use lib.ListN.{length}
-use Prim.Native.Nat.{ℕ, _-_, _/_, _<_, _≤_}
-use mathlib.Core.Bool.{false}
-use mathlib.Core.Path.{_≡_, sym, _∙_}
+use Rattle.answer.proofs.Places.{first-is, first-end}
+use Rattle.survey.specs.Walls.{isWallOf, runStart}
 use Rattle.survey.proofs.walls.run_start.Statement.{statement}
 use Rattle.survey.proofs.walls.run_start.Tie as tie
 

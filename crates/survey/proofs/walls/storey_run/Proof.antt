@@ -1,12 +1,11 @@
 -- `survey::walls::storey_run` meets its contract. Assumes nothing.
-use Rattle.survey.proofs.Shown.{run-start-most, run-length-most, rows-lent}
-use Rattle.survey.specs.Walls.{storeyRun}
-use lib.ListN.{length}
-use denote.Ref.{now}
-use native.Mathlib.Omega.{arith}
 use Prim.Native.Nat.{_+_, _*_, _/_, _≤_}
-use mathlib.Core.Path.{_≡_, _∙_}
+use native.Mathlib.Omega.{arith}
+use denote.Ref.{now}
+use lib.ListN.{length}
 use borrow.Author.Needs.{needs}
+use Rattle.survey.specs.Walls.{storeyRun}
+use Rattle.survey.proofs.Shown.{run-start-most, run-length-most, rows-lent}
 use Rattle.survey.proofs.walls.storey_run.Statement.{statement}
 use Rattle.survey.proofs.walls.storey_run.Tie as tie
 

@@ -1,9 +1,8 @@
 -- `survey::walls::storey_walls` meets its contract: nothing of a refused table, and of an accepted one the run. Assumes nothing.
-use Rattle.survey.proofs.Acceptance.{judge-refused, judge-accepted}
-use Rattle.answer.specs.Told.{Told, told}
-use Rattle.survey.proofs.Shown.{walls-refused, run-is-walls}
-use mathlib.Core.Path.{_≡_, sym, ap, _∙_}
+use mathlib.Core.Path.{sym, _∙_}
 use borrow.Author.Needs.{needs}
+use Rattle.survey.proofs.Acceptance.{judge-refused, judge-accepted}
+use Rattle.survey.proofs.Shown.{walls-refused, run-is-walls}
 use Rattle.survey.proofs.walls.storey_walls.Statement.{statement}
 use Rattle.survey.proofs.walls.storey_walls.Tie as tie
 
