@@ -8,6 +8,7 @@ use native.Mathlib.Omega.{arith}
 use lib.Dec.{T, ltb}
 use lib.ListN.{getD}
 use borrow.Author.Tests.{ltb-true, ltb-false}
+use Rattle.answer.specs.Told.{row-out-of-order}
 use Rattle.answer.specs.First.{first}
 use Rattle.answer.proofs.Places.{before-first, first-none}
 use Rattle.survey.specs.declared.fault.Fault.{Fault}
@@ -51,7 +52,7 @@ columns-inside due ranges table row h column inside =
     let low = lows ranges in
     let high = highs ranges in
     let last = first (outside low high table row) 8 in
-    let past = ltb-false last 8 (test-clean (ltb last 8) _ (omega arith) (then-clean (test (ltb last due) (fault 3 1)) _ h .1)) in
+    let past = ltb-false last 8 (test-clean (ltb last 8) _ (omega arith) (then-clean (test (ltb last due) (fault row-out-of-order 1)) _ h .1)) in
     let both = or-false (ltb (cell table row column) (getD low column 0)) _ (before-first (outside low high table row) 8 column (omega arith)) in
     (ltb-false (cell table row column) _ (both .0), ltb-false _ (cell table row column) (both .1))
 
@@ -62,8 +63,8 @@ unfolding leftmost
 inside-columns due ranges table row few within-ranges =
     let low = lows ranges in
     let high = highs ranges in
-    let last : 8 ≡ first (outside low high table row) 8 = sym (first-none (outside low high table row) 8 (λ k l. inside low high table row k refl (within-ranges k l .0) (within-ranges k l .1))) in
-    rw (← last) (column-none due 8 few (le-refl 8))
+    let none-outside = first-none (outside low high table row) 8 (λ k l. inside low high table row k refl (within-ranges k l .0) (within-ranges k l .1)) in
+    rw none-outside (column-none due 8 few (le-refl 8))
 
 -- A house row without a fault has one to three storeys.
 pub house-storeys : (table : List ℕ) → Clean (houseFault table) → (1 ≤ storeys table) × (storeys table ≤ 3)

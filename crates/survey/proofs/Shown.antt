@@ -153,7 +153,9 @@ module _ (table : List ℕ) (h : (judging table) .number ≡ 0) where
         go true e =
             let head = taken-is start (omega arith) (at-run (omega arith)) in
             let tail = taken-is (start + count + k) h e in
-            let same : cell table (start + count) 1 ≡ storey = omega (arith, head .2, tail .2, rises start count (head .0) (omega arith), rises (start + count) k (omega arith) (tail .1)) in
+            let below = rises start count (head .0) (omega arith) in
+            let above = rises (start + count) k (omega arith) (tail .1) in
+            let same : cell table (start + count) 1 ≡ storey = omega (arith, head .2, tail .2, below, above) in
             sym (is-taken (start + count) (omega arith) (omega arith) same) ∙ past-run (omega arith)
 
     -- The walls of the storey are the run.

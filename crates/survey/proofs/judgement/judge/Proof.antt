@@ -118,7 +118,8 @@ returns-4 c =
     let at-end = c .before .before .before in
     let at-parts = at-end .before .before in
     let at-if1 = at-parts .before .before .before .before .before in
-    c .refused3 .ensures ∙ judging-short _ (at-if1 .before .rows-in .ensures) (at-if1 .if1 .left) (clean at-end) (rw (← at-parts .parts-row .ensures) (omega (arith, c .before .before .if4 .taken))) (c .before .fault-at .ensures)
+    c .refused3 .ensures ∙ judging-short _ (at-if1 .before .rows-in .ensures) (at-if1 .if1 .left) (clean at-end)
+    (rw (← at-parts .parts-row .ensures) (omega (arith, c .before .before .if4 .taken))) (c .before .fault-at .ensures)
 
 cast-t10 : tie.Need-cast-t10 Inv-loop μ-loop
 cast-t10 c = omega (arith, whole (c .before .before .before .before .before .before .before .before))

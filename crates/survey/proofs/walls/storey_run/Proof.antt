@@ -21,7 +21,9 @@ run-length-requires c κs = start-fits c
 
 run-fits : (c : tie.After-run-length)
     → 8 * c .before .run-start .result + 8 * c .run-length .result ≤ length (now (c .before .before .before .args .table))
-run-fits c = omega (arith, start-fits (c .before), c .run-length .ensures, run-length-most (now (c .before .before .before .args .table)) (c .before .before .before .args .storey) (c .before .run-start .result))
+run-fits c =
+    let args = c .before .before .before .args in
+    omega (arith, start-fits (c .before), c .run-length .ensures, run-length-most (now (args .table)) (args .storey) (c .before .run-start .result))
 
 mul-from : tie.Need-mul-from
 mul-from c = omega (arith, run-fits c)
