@@ -28,16 +28,24 @@ use Rattle.survey.proofs.Inside.{Clean, Inside, then-clean, test-clean,
 
 -- What an accepted table is made of.
 pub record Accepted (table : List ℕ) : Type 0 where
-  -- The parts row is the last.
+  -- Whole rows, not too many, and the parts row is the last.
   pub sizes : Whole 8 (length table) (rowsDue table)
+  -- Every row's columns lie in their ranges: the house,
   pub house-inside : Inside (house table) table 0
+  -- a storey, which stands in the row of its number,
   pub storey-inside : (row : ℕ) → 0 < row → row ≤ storeys table → Inside (storey row) table row
+  -- the ends, between the storeys and the walls,
   pub ends-inside : (row : ℕ) → storeys table < row → row < firstWall table → Inside (ends table row) table row
-  pub ends-fit : (row : ℕ) → storeys table < row → row < firstWall table → cell table row 3 + cell table row 4 ≤ cell table (endsStorey table row) 2
+  -- a wall, between the ends and the parts,
   pub wall-inside : (row : ℕ) → firstWall table ≤ row → row < partsRow table → Inside (wall table row) table row
+  -- and the parts.
+  pub parts-inside : Inside parts table (partsRow table)
+  -- The two ends' areas are at most their storey's.
+  pub ends-fit : (row : ℕ) → storeys table < row → row < firstWall table → cell table row 3 + cell table row 4 ≤ cell table (endsStorey table row) 2
+  -- The walls' storeys never fall, and there are at most 300 walls.
   pub sorted : (row : ℕ) → firstWall table ≤ row → row + 1 < partsRow table → cell table row 1 ≤ cell table (row + 1) 1
   pub few : wallRows table ≤ mostWalls
-  pub parts-inside : Inside parts table (partsRow table)
+  -- Every mark is on a part that is present, and some part is.
   pub marks-present : within (cell table (partsRow table) 2) (cell table (partsRow table) 1) ≡ true
   pub some-present : 0 < cell table (partsRow table) 1
 

@@ -13,7 +13,7 @@ use borrow.Author.Tests.{eqb-true, eq-eqb, ne-eqb, not-true, not-false}
 use Rattle.answer.specs.First.{first}
 use Rattle.answer.proofs.Places.{before-first, at-first, first-most}
 use Rattle.survey.specs.Table.{cell, isWall, storeys, firstWall, partsRow}
-use Rattle.survey.specs.Judgement.{judging}
+use Rattle.survey.specs.Judgement.{mostWalls, judging}
 use Rattle.survey.specs.Walls.{rowsFrom, rowsWhere, isWallOf, storeyWalls, runStart, runLength, storeyRun}
 use Rattle.survey.proofs.Acceptance.{Accepted, accepted}
 
@@ -64,6 +64,8 @@ pub record Shown (table : List ℕ) (storey : ℕ) : Type 0 where
   pub start : ℕ
   pub count : ℕ
   pub walls : storeyWalls table storey ≡ rowsFrom table start count
+  pub fits : 8 * start + 8 * count ≤ length table
+  pub few : count ≤ mostWalls
   pub each : (k : ℕ) → k < count → (firstWall table ≤ start + k) × (start + k < partsRow table) × (cell table (start + k) 1 ≡ storey)
 
 module _ (table : List ℕ) (h : (judging table) .number ≡ 0) where
@@ -177,12 +179,24 @@ module _ (table : List ℕ) (h : (judging table) .number ≡ 0) where
     unfolding storeyRun storeyWalls
     run-is-walls = rw (eq-eqb ((judging table) .number) 0 h) (sym where-run)
 
+    run-few : count ≤ mostWalls
+    run-few = go (decLt 0 count)
+      where
+        go : Dec (0 < count) → count ≤ mostWalls
+        go (yes l) =
+            let head = taken-is (start + 0) (omega (arith, count-most)) (in-run 0 l) in
+            let last = taken-is (start + (count - 1)) (omega (arith, count-most)) (in-run (count - 1) (omega arith)) in
+            omega (arith, head .0, last .1, a .few)
+        go (no l) = omega arith
+
     pub shown : Shown table storey
     unfolding storeyRun
     shown = record {
       start = start;
       count = count;
       walls = sym run-is-walls;
+      fits = omega (arith, count-most);
+      few = run-few;
       each = λ k l. taken-is (start + k) (omega (arith, count-most)) (in-run k l);
     }
 
