@@ -27,6 +27,9 @@ def sheet(rows):
 
 def main(crate, made, arguments):
     """Writes a crate's files, each by its name and content; with --check compares them instead."""
+    if arguments not in ([], ["--check"]):
+        print(f"usage: tools/{crate} [--check]")
+        return 2
     root = os.path.join(os.path.dirname(os.path.abspath(__file__)), "..", "crates", crate)
     data = os.path.join(root, "data")
     os.makedirs(data, exist_ok=True)

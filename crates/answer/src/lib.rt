@@ -8,7 +8,7 @@ ghost use Rattle.answer.specs.Length.{rowsIn};
 
 // Document 01: "Each answer is either the count or a refusal with row and column".
 pub enum Answer {
-    // Rows for a reader, bytes for a writer.
+    // Rows where a sheet is read or a table judged, bytes where a table is written.
     Count(u32),
     // A refusal's number, and its row and column, both from 1; 0 where it has no place.
     Refused { number: u32, row: u32, column: u32 },

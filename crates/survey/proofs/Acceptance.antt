@@ -2,7 +2,7 @@
 use mathlib.Core.Path.{_≡_, refl, sym, ap, subst, _∙_}
 use mathlib.Core.Bool.{Bool, true, false, cond, not}
 use mathlib.Core.List.{List}
-use Prim.Native.Nat.{ℕ, _+_, _-_, _<_, _≤_}
+use Prim.Native.Nat.{ℕ, _+_, _-_, _%_, _<_, _≤_}
 use native.Mathlib.Nat.{le-refl}
 use native.Mathlib.Decide.{decLt}
 use native.Mathlib.Omega.{arith}
@@ -19,8 +19,8 @@ use Rattle.answer.proofs.Refusals.{passed}
 use Rattle.answer.proofs.Places.{before-first, at-first}
 use Rattle.answer.proofs.Lengths.{Whole, rows-whole, rows-counted}
 use Rattle.survey.specs.Table.{cell, storeys, endsStorey, firstWall, wallRows, partsRow, rowsDue}
-use Rattle.survey.specs.Ranges.{zone, house, storey, ends, wall, parts}
-use Rattle.survey.specs.Judgement.{fault, none, faulty, test, _then_, columns, houseFault, storeyFault, endsFault, storeyBefore, mostWalls, wallFault, within, partsFault, rowFault, judging}
+use Rattle.survey.specs.Ranges.{zone, houseColumns, storeyColumns, endsColumns, wallColumns, partsColumns}
+use Rattle.survey.specs.Judgement.{fault, none, faulty, test, _then_, columnsFault, houseFault, storeyFault, endsFault, storeyBefore, mostWalls, wallFault, within, partsFault, rowFault, judging}
 use Rattle.survey.proofs.Faults.{not-faulty}
 use Rattle.survey.proofs.Cases.{ends-right, wall-right, parts-right, row-house, row-storey, row-ends, row-wall, row-parts, row-after}
 use Rattle.survey.proofs.Judged.{judging-accepted}
@@ -31,15 +31,15 @@ pub record Accepted (table : List ℕ) : Type 0 where
   -- Whole rows, not too many, and the parts row is the last.
   pub sizes : Whole 8 (length table) (rowsDue table)
   -- Every row's columns lie in their ranges: the house,
-  pub house-inside : Inside (house table) table 0
+  pub house-inside : Inside (houseColumns table) table 0
   -- a storey, which stands in the row of its number,
-  pub storey-inside : (row : ℕ) → 0 < row → row ≤ storeys table → Inside (storey row) table row
+  pub storey-inside : (row : ℕ) → 0 < row → row ≤ storeys table → Inside (storeyColumns row) table row
   -- the ends, between the storeys and the walls,
-  pub ends-inside : (row : ℕ) → storeys table < row → row < firstWall table → Inside (ends table row) table row
+  pub ends-inside : (row : ℕ) → storeys table < row → row < firstWall table → Inside (endsColumns table row) table row
   -- a wall, between the ends and the parts,
-  pub wall-inside : (row : ℕ) → firstWall table ≤ row → row < partsRow table → Inside (wall table row) table row
+  pub wall-inside : (row : ℕ) → firstWall table ≤ row → row < partsRow table → Inside (wallColumns table row) table row
   -- and the parts.
-  pub parts-inside : Inside parts table (partsRow table)
+  pub parts-inside : Inside partsColumns table (partsRow table)
   -- The two ends' areas are at most their storey's.
   pub ends-fit : (row : ℕ) → storeys table < row → row < firstWall table → cell table row 3 + cell table row 4 ≤ cell table (endsStorey table row) 2
   -- The walls' storeys never fall, and there are at most 300 walls.
@@ -114,24 +114,24 @@ module _ (table : List ℕ) (h : (judging table) .number ≡ 0) where
 
   -- A wall row's three tests.
   wall-tests : (row : ℕ) → firstWall table ≤ row → row < partsRow table
-      → (ltb (cell table row 1) (storeyBefore table row) ≡ false) × Inside (wall table row) table row × (row < firstWall table + mostWalls)
+      → (ltb (cell table row 1) (storeyBefore table row) ≡ false) × Inside (wallColumns table row) table row × (row < firstWall table + mostWalls)
   unfolding wallFault
   wall-tests row past before =
       let three = then-clean (test (ltb (cell table row 1) (storeyBefore table row)) (fault row-out-of-order 1)) _ (wall-clean row past before) in
-      let two = then-clean (columns 1 (wall table row) table row) _ (three .1) in
+      let two = then-clean (columnsFault 1 (wallColumns table row) table row) _ (three .1) in
       let crowded = leb (firstWall table + mostWalls) row in (
         test-clean (ltb (cell table row 1) (storeyBefore table row)) _ (omega arith) (three .0),
-        columns-inside 1 (wall table row) table row (two .0),
+        columns-inside 1 (wallColumns table row) table row (two .0),
         leb-false (firstWall table + mostWalls) row (test-clean crowded _ (omega arith) (two .1)),
       )
 
   ends-tests : (row : ℕ) → storeys table < row → row < firstWall table
-      → Inside (ends table row) table row × (cell table row 3 + cell table row 4 ≤ cell table (endsStorey table row) 2)
+      → Inside (endsColumns table row) table row × (cell table row 3 + cell table row 4 ≤ cell table (endsStorey table row) 2)
   unfolding endsFault
   ends-tests row above before =
-      let two = then-clean (columns 3 (ends table row) table row) _ (ends-clean row above before) in
+      let two = then-clean (columnsFault 3 (endsColumns table row) table row) _ (ends-clean row above before) in
       let exceed = ltb (cell table (endsStorey table row) 2) (cell table row 3 + cell table row 4) in
-      (columns-inside 3 (ends table row) table row (two .0), ltb-false (cell table (endsStorey table row) 2) _ (test-clean exceed _ (omega arith) (two .1)))
+      (columns-inside 3 (endsColumns table row) table row (two .0), ltb-false (cell table (endsStorey table row) 2) _ (test-clean exceed _ (omega arith) (two .1)))
 
   abbrev present : ℕ
   present = cell table (partsRow table) 1
@@ -139,12 +139,12 @@ module _ (table : List ℕ) (h : (judging table) .number ≡ 0) where
   abbrev marked : ℕ
   marked = cell table (partsRow table) 2
 
-  parts-tests : Inside parts table (partsRow table) × (within marked present ≡ true) × (0 < present)
+  parts-tests : Inside partsColumns table (partsRow table) × (within marked present ≡ true) × (0 < present)
   unfolding partsFault
   parts-tests =
-      let three = then-clean (columns 1 parts table (partsRow table)) _ parts-clean in
+      let three = then-clean (columnsFault 1 partsColumns table (partsRow table)) _ parts-clean in
       let two = then-clean (test (not (within marked present)) (fault mark-on-absent-part 3)) _ (three .1) in (
-        columns-inside 1 parts table (partsRow table) (three .0),
+        columns-inside 1 partsColumns table (partsRow table) (three .0),
         not-false (within marked present) (test-clean (not (within marked present)) _ (omega arith) (two .0)),
         omega (arith, eqb-false present 0 (test-clean (eqb present 0) _ (omega arith) (two .1))),
       )
@@ -168,8 +168,8 @@ module _ (table : List ℕ) (h : (judging table) .number ≡ 0) where
   unfolding houseFault storeyFault
   accepted = record {
     sizes = subst (Whole 8 (length table)) last (right .size);
-    house-inside = columns-inside 1 (house table) table 0 (rw (row-house table) (right .clean 0 (right .size .some)));
-    storey-inside = λ row some most. columns-inside 2 (storey row) table row (storey-clean row some most);
+    house-inside = columns-inside 1 (houseColumns table) table 0 (rw (row-house table) (right .clean 0 (right .size .some)));
+    storey-inside = λ row some most. columns-inside 2 (storeyColumns row) table row (storey-clean row some most);
     ends-inside = λ row above before. ends-tests row above before .0;
     ends-fit = λ row above before. ends-tests row above before .1;
     wall-inside = λ row past before. wall-tests row past before .1;
@@ -193,16 +193,16 @@ module _ (table : List ℕ) (a : Accepted table) where
 
   house-clear : none ≡ rowFault table 0
   unfolding houseFault
-  house-clear = inside-columns 1 (house table) table 0 (omega arith) (a .house-inside) ∙ row-house table
+  house-clear = inside-columns 1 (houseColumns table) table 0 (omega arith) (a .house-inside) ∙ row-house table
 
   storey-clear : (row : ℕ) → 0 < row → row ≤ storeys table → none ≡ rowFault table row
   unfolding storeyFault
   storey-clear row some most =
-      inside-columns 2 (storey row) table row (omega arith) (a .storey-inside row some most) ∙ row-storey table row some most
+      inside-columns 2 (storeyColumns row) table row (omega arith) (a .storey-inside row some most) ∙ row-storey table row some most
 
   ends-clear : (row : ℕ) → storeys table < row → row < firstWall table → none ≡ rowFault table row
   ends-clear row above before =
-      ends-right table row (inside-columns 3 (ends table row) table row (omega arith) (a .ends-inside row above before)) (le-refl 0) (a .ends-fit row above before)
+      ends-right table row (inside-columns 3 (endsColumns table row) table row (omega arith) (a .ends-inside row above before)) (le-refl 0) (a .ends-fit row above before)
       ∙ row-ends table row (omega arith) above before
 
   storey-rises : (row : ℕ) → firstWall table ≤ row → row < partsRow table → storeyBefore table row ≤ cell table row 1
@@ -218,14 +218,14 @@ module _ (table : List ℕ) (a : Accepted table) where
 
   wall-clear : (row : ℕ) → firstWall table ≤ row → row < partsRow table → none ≡ rowFault table row
   wall-clear row past before =
-      wall-right table row (storey-rises row past before) (inside-columns 1 (wall table row) table row (omega arith) (a .wall-inside row past before)) (le-refl 0) (omega (arith, a .few))
+      wall-right table row (storey-rises row past before) (inside-columns 1 (wallColumns table row) table row (omega arith) (a .wall-inside row past before)) (le-refl 0) (omega (arith, a .few))
       ∙ row-wall table row (omega arith) (omega (arith, storeys-known)) past before
 
   parts-clear : none ≡ rowFault table (partsRow table)
   unfolding within
   parts-clear =
       let row = partsRow table in
-      parts-right table row (inside-columns 1 parts table row (omega arith) (a .parts-inside)) (le-refl 0)
+      parts-right table row (inside-columns 1 partsColumns table row (omega arith) (a .parts-inside)) (le-refl 0)
       (eqb-true (bitAnd (cell table row 2) (cell table row 1)) (cell table row 2) (a .marks-present)) (λ e. omega (arith, a .some-present))
       ∙ row-parts table row (omega arith) (omega (arith, storeys-known)) (omega arith) refl
 
@@ -260,19 +260,22 @@ module _ (table : List ℕ) {answer : Answer} (judged : told answer ≡ judging 
       let h : (judging table) .number ≡ 0 = ap (λ (x : Told). x .number) (sym judged) ∙ ap (λ (x : Answer). told x .number) e in
       (h, ap (λ (x : Answer). told x .count) (sym e) ∙ ap (λ (x : Told). x .count) (judged ∙ accepted-count table h))
 
--- An accepted house's zone.
-zone-bounds : (n : ℕ) → (70 ≤ zone n) × (zone n ≤ 100)
-unfolding zone
-zone-bounds n = go (eqb n 70) (eqb n 80) (eqb n 90)
-  where
-    go : (a b c : Bool) → (70 ≤ cond a 70 (cond b 80 (cond c 90 100))) × (cond a 70 (cond b 80 (cond c 90 100)) ≤ 100)
-    go true b c = (omega arith, omega arith)
-    go false true c = (omega arith, omega arith)
-    go false false true = (omega arith, omega arith)
-    go false false false = (omega arith, omega arith)
+-- An accepted house's zone is a multiple of ten from 70 to 100.
+abbrev pub Zone : ℕ → Type 0
+Zone n = (70 ≤ n) × (n ≤ 100) × (n % 10 ≡ 0)
 
-pub accepted-zone : {table : List ℕ} → Accepted table → (70 ≤ cell table 0 3) × (cell table 0 3 ≤ 100)
+zone-known : (n : ℕ) → Zone (zone n)
+unfolding zone
+zone-known n = go (eqb n 70) (eqb n 80) (eqb n 90)
+  where
+    go : (a b c : Bool) → Zone (cond a 70 (cond b 80 (cond c 90 100)))
+    go true b c = (omega arith, omega arith, refl)
+    go false true c = (omega arith, omega arith, refl)
+    go false false true = (omega arith, omega arith, refl)
+    go false false false = (omega arith, omega arith, refl)
+
+pub accepted-zone : {table : List ℕ} → Accepted table → Zone (cell table 0 3)
 accepted-zone {table} a =
     let inside = a .house-inside 3 (omega arith) in
-    let bounds = zone-bounds (cell table 0 3) in
-    (omega (arith, inside, bounds), omega (arith, inside, bounds))
+    let same : zone (cell table 0 3) ≡ cell table 0 3 = omega (arith, inside) in
+    subst Zone same (zone-known (cell table 0 3))

@@ -10,8 +10,8 @@ use borrow.Author.Tests.{eq-eqb, ne-eqb, lt-ltb, le-ltb, le-leb, lt-leb}
 use Rattle.answer.specs.Told.{row-out-of-order, out-of-range, too-many-walls, ends-exceed-storey, mark-on-absent-part, no-parts}
 use Rattle.survey.specs.declared.fault.Fault.{Fault}
 use Rattle.survey.specs.Table.{cell, storeys, endsStorey, firstWall, partsRow}
-use Rattle.survey.specs.Ranges.{ends, wall, parts}
-use Rattle.survey.specs.Judgement.{fault, none, wrongColumn, columns, endsFault, storeyBefore, mostWalls, wallFault, within, partsFault, houseFault, storeyFault, rowFault}
+use Rattle.survey.specs.Ranges.{endsColumns, wallColumns, partsColumns}
+use Rattle.survey.specs.Judgement.{fault, none, wrongColumn, columnsFault, endsFault, storeyBefore, mostWalls, wallFault, within, partsFault, houseFault, storeyFault, rowFault}
 use Rattle.survey.proofs.Faults.{found, passed, held, clear, test-finds, test-passes}
 
 gt-eqb : (row : ℕ) → 0 < row → eqb row 0 ≡ false
@@ -37,7 +37,7 @@ unfolding wallFault
 wall-falls table row h = test-finds _ _ (lt-ltb _ _ h) (lit< tt)
 
 module _ (table : List ℕ) (row : ℕ) {f : Fault} where
-  module _ (ranged : f ≡ columns 3 (ends table row) table row) where
+  module _ (ranged : f ≡ columnsFault 3 (endsColumns table row) table row) where
     pub ends-columns : 0 < f .number → f ≡ endsFault table row
     unfolding endsFault
     ends-columns h = found _ _ ranged h
@@ -51,7 +51,7 @@ module _ (table : List ℕ) (row : ℕ) {f : Fault} where
       unfolding endsFault
       ends-right h = passed _ _ ranged clean (clear _ (le-ltb _ _ h))
 
-  module _ (rises : storeyBefore table row ≤ cell table row 1) (ranged : f ≡ columns 1 (wall table row) table row) where
+  module _ (rises : storeyBefore table row ≤ cell table row 1) (ranged : f ≡ columnsFault 1 (wallColumns table row) table row) where
     pub wall-columns : 0 < f .number → f ≡ wallFault table row
     unfolding wallFault
     wall-columns h = test-passes _ _ (le-ltb _ _ rises) (found _ _ ranged h)
@@ -65,7 +65,7 @@ module _ (table : List ℕ) (row : ℕ) {f : Fault} where
       unfolding wallFault
       wall-right h = test-passes _ _ (le-ltb _ _ rises) (passed _ _ ranged clean (clear _ (lt-leb _ _ h)))
 
-  module _ (ranged : f ≡ columns 1 parts table row) where
+  module _ (ranged : f ≡ columnsFault 1 partsColumns table row) where
     pub parts-columns : 0 < f .number → f ≡ partsFault table row
     unfolding partsFault
     parts-columns h = found _ _ ranged h

@@ -1,6 +1,8 @@
 -- Acceptance can be met: document 01's P1 is accepted, and its walls are shown, by computation. Assumes nothing.
 use mathlib.Core.Path.{_≡_, refl, ap}
 use mathlib.Core.List.{[]}
+use Prim.Native.Nat.{ℕ}
+use native.Mathlib.Omega.{arith}
 use Rattle.answer.specs.P1.{p1}
 use Rattle.answer.specs.Told.{Told, counted}
 use Rattle.answer.specs.First.{first}
@@ -10,6 +12,7 @@ use Rattle.survey.specs.Ranges.{zone}
 use Rattle.survey.specs.Judgement.{_then_, test, outside, leftmost, wrongColumn, houseFault, storeyFault, endsFault, storeyBefore, wallFault, within, partsFault, rowFault, judging}
 use Rattle.survey.specs.Walls.{rowsFrom, rowsWhere, isWallOf, storeyWalls}
 use Rattle.survey.proofs.Acceptance.{Accepted, accepted}
+use Rattle.survey.proofs.Shown.{walls-lacking}
 
 pub p1-judged : judging p1 ≡ counted 11
 unfolding judging rowsIn first rowFault houseFault storeyFault endsFault wallFault partsFault wallRows zone storeyBefore within wrongColumn leftmost outside test _then_
@@ -23,6 +26,5 @@ p1-walls : storeyWalls p1 1 ≡ rowsFrom p1 4 6
 unfolding storeyWalls rowsWhere rowsFrom isWallOf
 p1-walls = rw p1-judged
 
-p1-walls-above : storeyWalls p1 2 ≡ []
-unfolding storeyWalls rowsWhere rowsFrom isWallOf
-p1-walls-above = rw p1-judged
+p1-other-walls : (storey : ℕ) → (storey ≡ 1 → ⊥) → storeyWalls p1 storey ≡ []
+p1-other-walls storey other = walls-lacking p1 (ap (λ (t : Told). t .number) p1-judged) storey (λ some most. other (omega arith))

@@ -13,8 +13,8 @@ use Rattle.answer.specs.First.{first}
 use Rattle.answer.proofs.Places.{before-first, first-none}
 use Rattle.survey.specs.declared.fault.Fault.{Fault}
 use Rattle.survey.specs.Table.{cell, storeys}
-use Rattle.survey.specs.Ranges.{Range, lows, highs, house}
-use Rattle.survey.specs.Judgement.{fault, none, _then_, test, outside, leftmost, wrongColumn, columns, houseFault}
+use Rattle.survey.specs.Ranges.{Range, lows, highs, houseColumns}
+use Rattle.survey.specs.Judgement.{fault, none, _then_, test, outside, leftmost, wrongColumn, columnsFault, houseFault}
 use Rattle.survey.proofs.Faults.{inside}
 use Rattle.survey.proofs.Cases.{column-none}
 
@@ -46,7 +46,7 @@ abbrev pub Inside : List Range → List ℕ → ℕ → Type 0
 Inside ranges table row =
     (column : ℕ) → column < 8 → (getD (lows ranges) column 0 ≤ cell table row column) × (cell table row column ≤ getD (highs ranges) column 0)
 
-pub columns-inside : (due : ℕ) (ranges : List Range) (table : List ℕ) (row : ℕ) → Clean (columns due ranges table row) → Inside ranges table row
+pub columns-inside : (due : ℕ) (ranges : List Range) (table : List ℕ) (row : ℕ) → Clean (columnsFault due ranges table row) → Inside ranges table row
 unfolding wrongColumn leftmost outside
 columns-inside due ranges table row h column inside =
     let low = lows ranges in
@@ -58,7 +58,7 @@ columns-inside due ranges table row h column inside =
 
 -- And the other way: a row whose numbers lie in their ranges has neither refusal 3 nor 4.
 pub inside-columns : (due : ℕ) (ranges : List Range) (table : List ℕ) (row : ℕ) → due ≤ 8 → Inside ranges table row
-    → none ≡ columns due ranges table row
+    → none ≡ columnsFault due ranges table row
 unfolding leftmost
 inside-columns due ranges table row few within-ranges =
     let low = lows ranges in
@@ -69,4 +69,4 @@ inside-columns due ranges table row few within-ranges =
 -- A house row without a fault has one to three storeys.
 pub house-storeys : (table : List ℕ) → Clean (houseFault table) → (1 ≤ storeys table) × (storeys table ≤ 3)
 unfolding houseFault
-house-storeys table h = columns-inside 1 (house table) table 0 h 1 (omega arith)
+house-storeys table h = columns-inside 1 (houseColumns table) table 0 h 1 (omega arith)

@@ -12,7 +12,7 @@ use lib.Seq.{take-add, drop-drop, getD-take, getD-drop}
 use borrow.Author.Tests.{eqb-true, eq-eqb, ne-eqb, not-true, not-false}
 use Rattle.answer.specs.First.{first}
 use Rattle.answer.proofs.Places.{before-first, at-first, first-most}
-use Rattle.survey.specs.Table.{cell, isWall, storeys, firstWall, partsRow}
+use Rattle.survey.specs.Table.{cell, isWall, storeys, firstWall, partsRow, rowsDue}
 use Rattle.survey.specs.Judgement.{mostWalls, judging}
 use Rattle.survey.specs.Walls.{rowsFrom, rowsWhere, isWallOf, storeyWalls, runStart, runLength, storeyRun}
 use Rattle.survey.proofs.Acceptance.{Accepted, accepted}
@@ -59,7 +59,7 @@ and-true : (a b : Bool) → (a && b) ≡ true → (a ≡ true) × (b ≡ true)
 and-true true b e = (refl, e)
 and-true false b e = absurd (subst T (sym e) tt)
 
--- What is shown of a storey: so many rows from a row on, each of them a wall of that storey.
+-- What is shown of a storey: so many rows from a row on, each of them a wall of that storey, and no other row is one.
 pub record Shown (table : List ℕ) (storey : ℕ) : Type 0 where
   pub start : ℕ
   pub count : ℕ
@@ -67,6 +67,7 @@ pub record Shown (table : List ℕ) (storey : ℕ) : Type 0 where
   pub fits : 8 * start + 8 * count ≤ length table
   pub few : count ≤ mostWalls
   pub each : (k : ℕ) → k < count → (firstWall table ≤ start + k) × (start + k < partsRow table) × (cell table (start + k) 1 ≡ storey)
+  pub no-other : (row : ℕ) → row < rowsDue table → isWallOf table storey row ≡ true → (start ≤ row) × (row < start + count)
 
 module _ (table : List ℕ) (h : (judging table) .number ≡ 0) where
   a : Accepted table
@@ -189,6 +190,17 @@ module _ (table : List ℕ) (h : (judging table) .number ≡ 0) where
             omega (arith, head .0, last .1, a .few)
         go (no l) = omega arith
 
+    -- A wall of the storey lies in the run.
+    run-holds : (row : ℕ) → row < rows → taken row ≡ true → (start ≤ row) × (row < start + count)
+    run-holds row l e = go (decLt row start) (decLt row (start + count))
+      where
+        go : Dec (row < start) → Dec (row < start + count) → (start ≤ row) × (row < start + count)
+        go (yes p) _ = absurd (subst T (sym e ∙ before-run row p) tt)
+        go (no p) (yes q) = (omega arith, q)
+        go (no p) (no q) =
+            let later : start + count + (row - (start + count)) ≡ row = omega arith in
+            absurd (subst T (sym e ∙ (rw later at (after-run (row - (start + count)) (rw later l)))) tt)
+
     pub shown : Shown table storey
     unfolding storeyRun
     shown = record {
@@ -198,6 +210,7 @@ module _ (table : List ℕ) (h : (judging table) .number ≡ 0) where
       fits = omega (arith, count-most);
       few = run-few;
       each = λ k l. taken-is (start + k) (omega (arith, count-most)) (in-run k l);
+      no-other = λ row l e. run-holds row (omega (arith, a .sizes)) e;
     }
 
     -- A house that lacks the storey shows nothing of it.

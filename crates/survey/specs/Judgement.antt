@@ -10,7 +10,7 @@ use Rattle.answer.specs.Told.{Told, counted, refusal, sheet-length, row-out-of-
 use Rattle.answer.specs.First.{first}
 use Rattle.answer.specs.Length.{rowsIn}
 use Rattle.survey.specs.Table.{cell, storeys, endsStorey, firstWall, partsRow, rowsDue}
-use Rattle.survey.specs.Ranges.{Range, lows, highs, house, storey, ends, wall, parts}
+use Rattle.survey.specs.Ranges.{Range, lows, highs, houseColumns, storeyColumns, endsColumns, wallColumns, partsColumns}
 use Rattle.survey.specs.declared.fault.Fault.{Fault}
 
 -- A row's fault: a refusal's number and column, from 1; number 0 where the row has none.
@@ -47,19 +47,19 @@ wrongColumn due column =
     test (ltb column due) (fault row-out-of-order 1)
     then test (ltb column 8) (fault out-of-range (column + 1))
 
-abbrev pub columns : ℕ → List Range → List ℕ → ℕ → Fault
-columns due ranges table row = wrongColumn due (leftmost (lows ranges) (highs ranges) table row)
+abbrev pub columnsFault : ℕ → List Range → List ℕ → ℕ → Fault
+columnsFault due ranges table row = wrongColumn due (leftmost (lows ranges) (highs ranges) table row)
 
 unfoldable pub houseFault : List ℕ → Fault
-houseFault table = columns 1 (house table) table 0
+houseFault table = columnsFault 1 (houseColumns table) table 0
 
 unfoldable pub storeyFault : List ℕ → ℕ → Fault
-storeyFault table row = columns 2 (storey row) table row
+storeyFault table row = columnsFault 2 (storeyColumns row) table row
 
 -- "area a + area b over the storey's area; column 4".
 unfoldable pub endsFault : List ℕ → ℕ → Fault
 endsFault table row =
-    columns 3 (ends table row) table row
+    columnsFault 3 (endsColumns table row) table row
     then test (ltb (cell table (endsStorey table row) 2) (cell table row 3 + cell table row 4)) (fault ends-exceed-storey 4)
 
 -- The storey of the wall before; 0 before the first wall.
@@ -73,7 +73,7 @@ mostWalls = 300
 unfoldable pub wallFault : List ℕ → ℕ → Fault
 wallFault table row =
     test (ltb (cell table row 1) (storeyBefore table row)) (fault row-out-of-order 1)
-    then columns 1 (wall table row) table row
+    then columnsFault 1 (wallColumns table row) table row
     then test (leb (firstWall table + mostWalls) row) (fault too-many-walls 1)
 
 -- Every item of a set is one of another: "item 1 is worth 1, each next item twice the one before".
@@ -83,7 +83,7 @@ within set other = eqb (bitAnd set other) set
 -- "mark on absent part"; "present set 0".
 unfoldable pub partsFault : List ℕ → ℕ → Fault
 partsFault table row =
-    columns 1 parts table row
+    columnsFault 1 partsColumns table row
     then test (not (within (cell table row 2) (cell table row 1))) (fault mark-on-absent-part 3)
     then test (eqb (cell table row 1) 0) (fault no-parts 2)
 

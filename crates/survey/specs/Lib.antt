@@ -1,4 +1,4 @@
--- The definitions that the survey's promises cite, in document 01's order: where rows stand, what their columns may hold, which refusal
+-- The definitions that the survey's promises and theorems cite, in document 01's order: where rows stand, what their columns may hold, which refusal
 -- is due, a storey's walls.
 pub mod Table
 pub mod Ranges

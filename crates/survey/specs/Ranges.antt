@@ -31,8 +31,8 @@ unfoldable pub zone : ℕ → ℕ
 zone n = cond (eqb n 70) 70 (cond (eqb n 80) 80 (cond (eqb n 90) 90 100))
 
 -- "House, one row".
-abbrev pub house : List ℕ → List Range
-house table =
+abbrev pub houseColumns : List ℕ → List Range
+houseColumns table =
     exactly 1
     ∷ 1 to 3  -- storeys
     ∷ 1 to 3  -- weight class: 1 light, 2 heavy, 3 very heavy
@@ -44,8 +44,8 @@ house table =
     ∷ []
 
 -- "Storey, one each, from the ground up".
-abbrev pub storey : ℕ → List Range
-storey number =
+abbrev pub storeyColumns : ℕ → List Range
+storeyColumns number =
     exactly 2
     ∷ exactly number  -- storey
     ∷ 1 to 50000  -- floor area in 0.01 m²
@@ -57,8 +57,8 @@ storey number =
     ∷ []
 
 -- "Ends, for each storey, direction 1 (X) then 2 (Y)". The storeys of a part are "each from this storey's number to the house's".
-abbrev pub ends : List ℕ → ℕ → List Range
-ends table row =
+abbrev pub endsColumns : List ℕ → ℕ → List Range
+endsColumns table row =
     exactly 3
     ∷ exactly (endsStorey table row)
     ∷ exactly (endsDirection table row)
@@ -73,13 +73,13 @@ ends table row =
 abbrev pub isOpening : ℕ → Bool
 isOpening type = eqb type 2 || eqb type 3
 
--- "For types 2 and 3 strength and joint are 0. Where the type is none of the three, columns 5 and 7 are judged as for type 1."
+-- "For types 2 and 3 strength and joint are 0. Where the type is none of the three, columnsFault 5 and 7 are judged as for type 1."
 abbrev pub solid : List ℕ → ℕ → Range → Range
 solid table row range = cond (isOpening (cell table row 7)) unused range
 
 -- "Walls".
-abbrev pub wall : List ℕ → ℕ → List Range
-wall table row =
+abbrev pub wallColumns : List ℕ → ℕ → List Range
+wallColumns table row =
     exactly 4
     ∷ 1 to storeys table  -- storey
     ∷ 1 to 2  -- direction
@@ -91,8 +91,8 @@ wall table row =
     ∷ []
 
 -- "Parts, one row, last". "A set is 0 to 8,191".
-abbrev pub parts : List Range
-parts =
+abbrev pub partsColumns : List Range
+partsColumns =
     exactly 5
     ∷ 0 to 8191  -- present set
     ∷ 0 to 8191  -- marked set

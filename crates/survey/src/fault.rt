@@ -66,7 +66,13 @@ fn leftmost(table: &[u32], row: usize, low: [u32; 8], high: [u32; 8]) -> usize
 }
 
 // Refusal 3 or 4 for a row, where one is due. Its first `due` columns say which row it is.
-pub(crate) fn columns(table: &[u32], row: usize, low: [u32; 8], high: [u32; 8], due: usize) -> Fault
+pub(crate) fn columns_fault(
+    table: &[u32],
+    row: usize,
+    low: [u32; 8],
+    high: [u32; 8],
+    due: usize,
+) -> Fault
     requires { ⌜ 8 * row + 8 ≤ length (now table) ⌝ }
     ensures { λ r. ⌜ r ≡ wrongColumn due (leftmost low high (now (table .entry)) row) ⌝ }
 {

@@ -2,7 +2,7 @@
 // the eight columns and then the greatest.
 use crate::fault::Fault;
 use crate::fault::cell;
-use crate::fault::columns;
+use crate::fault::columns_fault;
 use crate::fault::fault_at;
 use crate::fault::no_fault;
 use answer::ENDS_EXCEED_STOREY;
@@ -14,8 +14,8 @@ ghost use mathlib.Core.Path.{_≡_};
 ghost use Prim.Native.Nat.{_<_, _≤_, _+_, _*_};
 ghost use lib.ListN.{length};
 ghost use Rattle.survey.specs.Table.{cell, firstWall};
-ghost use Rattle.survey.specs.Ranges.{zone, isOpening, wall};
-ghost use Rattle.survey.specs.Judgement.{columns, houseFault, storeyFault, endsFault, storeyBefore, wallFault, partsFault};
+ghost use Rattle.survey.specs.Ranges.{zone, isOpening, wallColumns};
+ghost use Rattle.survey.specs.Judgement.{columnsFault, houseFault, storeyFault, endsFault, storeyBefore, wallFault, partsFault};
 
 // The most walls of a house.
 const MOST_WALLS: usize = 300;
@@ -42,7 +42,7 @@ pub(crate) fn house_fault(table: &[u32]) -> Fault
     ensures { λ r. ⌜ r ≡ houseFault (now (table .entry)) ⌝ }
 {
     let zone = zone(cell(table, 0, 3));
-    columns(
+    columns_fault(
         table,
         0,
         [1, 1, 1, zone, 1, 1, 1, 0],
@@ -58,7 +58,7 @@ pub(crate) fn storey_fault(table: &[u32], row: usize) -> Fault
     ensures { λ r. ⌜ r ≡ storeyFault (now (table .entry)) row ⌝ }
 {
     let storey = row as u32;
-    columns(
+    columns_fault(
         table,
         row,
         [2, storey, 1, 500, 1, 0, 0, 0],
@@ -85,7 +85,7 @@ pub(crate) fn ends_fault(table: &[u32], storeys: usize, row: usize) -> Fault
     let top = storeys as u32;
     let storey = at as u32;
     let direction = (ends % 2 + 1) as u32;
-    let found = columns(
+    let found = columns_fault(
         table,
         row,
         [3, storey, direction, 1, 1, storey, storey, 0],
@@ -124,13 +124,13 @@ fn storey_before(table: &[u32], first: usize, row: usize) -> u32
 }
 
 // Refusals 3 and 4 for a wall whose storey does not fall. An opening has neither strength nor joint.
-fn wall_columns(table: &[u32], storeys: u32, row: usize) -> Fault
+fn wall_columns_fault(table: &[u32], storeys: u32, row: usize) -> Fault
     requires { ⌜ storeys ≡ cell (now table) 0 1 ⌝ }
     requires { ⌜ 8 * row + 8 ≤ length (now table) ⌝ }
-    ensures { λ r. ⌜ r ≡ columns 1 (wall (now (table .entry)) row) (now (table .entry)) row ⌝ }
+    ensures { λ r. ⌜ r ≡ columnsFault 1 (wallColumns (now (table .entry)) row) (now (table .entry)) row ⌝ }
 {
     if is_opening(cell(table, row, 7)) {
-        return columns(
+        return columns_fault(
             table,
             row,
             [4, 1, 1, 1, 0, 1, 0, 1],
@@ -138,7 +138,7 @@ fn wall_columns(table: &[u32], storeys: u32, row: usize) -> Fault
             1,
         );
     }
-    columns(
+    columns_fault(
         table,
         row,
         [4, 1, 1, 1, 1, 1, 1, 1],
@@ -157,7 +157,7 @@ pub(crate) fn wall_fault(table: &[u32], storeys: u32, first: usize, row: usize) 
     if cell(table, row, 1) < storey_before(table, first, row) {
         return fault_at(ROW_OUT_OF_ORDER, 1);
     }
-    let found = wall_columns(table, storeys, row);
+    let found = wall_columns_fault(table, storeys, row);
     if 0 < found.number {
         return found;
     }
@@ -172,7 +172,7 @@ pub(crate) fn parts_fault(table: &[u32], row: usize) -> Fault
     requires { ⌜ 8 * row + 8 ≤ length (now table) ⌝ }
     ensures { λ r. ⌜ r ≡ partsFault (now (table .entry)) row ⌝ }
 {
-    let found = columns(
+    let found = columns_fault(
         table,
         row,
         [5, 0, 0, 0, 0, 0, 0, 0],

@@ -14,7 +14,8 @@ const JUDGED: u32 = 0;
 const WALLS: u32 = 1;
 // and those of the first run of each storey, which nobody judges (--runs);
 const RUNS: u32 = 2;
-// every front of the table judged, from no number to all of them (--lengths);
+// every front of the table judged, from no number to all of them, and the rows counted of the first run
+// of storeys 0 to 4 and of 4,294,967,295 (--lengths);
 const LENGTHS: u32 = 3;
 // judged with 4,294,967,295 in the place of each number in turn (--large);
 const LARGE: u32 = 4;
@@ -54,9 +55,9 @@ fn run_judged(table: &[u32]) {
             column,
         } => print_row([0, number, row, column, one, two, three, four]),
         Answer::Count(count) => {
-            let none = shown(table, 0);
-            let last = shown(table, LARGEST);
-            print_row([count, none, one, two, three, four, last, 0])
+            let zero = shown(table, 0);
+            let largest = shown(table, LARGEST);
+            print_row([count, zero, one, two, three, four, largest, 0])
         }
     }
 }
@@ -94,10 +95,25 @@ fn run_parts(table: &[u32], way: u32) {
     run_part(table, 4, way);
 }
 
+fn count_run(table: &[u32], storey: u32) -> u32 {
+    rows_of(survey::storey_run(table, storey))
+}
+
+fn run_front(table: &[u32]) {
+    run_judged(table);
+    let zero = count_run(table, 0);
+    let one = count_run(table, 1);
+    let two = count_run(table, 2);
+    let three = count_run(table, 3);
+    let four = count_run(table, 4);
+    let largest = count_run(table, LARGEST);
+    print_row([zero, one, two, three, four, largest, 0, 0]);
+}
+
 fn run_lengths(table: &[u32]) {
     let mut front = 0;
     while front <= table.len() {
-        run_judged(&table[0..front]);
+        run_front(&table[0..front]);
         front += 1;
     }
 }

@@ -3,8 +3,8 @@ use mathlib.Core.Path.{_∙_, _≡_}
 use native.Mathlib.Omega.{arith}
 use denote.Ref.{now}
 use borrow.Author.Needs.{needs}
-use Rattle.survey.specs.Ranges.{ends}
-use Rattle.survey.specs.Judgement.{columns}
+use Rattle.survey.specs.Ranges.{endsColumns}
+use Rattle.survey.specs.Judgement.{columnsFault}
 use Rattle.survey.proofs.Cases.{ends-columns, ends-exceed, ends-right}
 use Rattle.survey.proofs.rows.ends_fault.Statement.{statement}
 use Rattle.survey.proofs.rows.ends_fault.Tie as tie
@@ -30,13 +30,13 @@ add-direction c = search needs
 cast-direction : tie.Need-cast-direction
 cast-direction c = search needs
 
-columns-requires : tie.Need-columns-requires
-columns-requires c κs = search needs
+columns-fault-requires : tie.Need-columns-fault-requires
+columns-fault-requires c κs = search needs
 
 -- The ranges as the code has them are those of the row.
-ranged : (c : tie.After-columns)
-    → let args = c .before .before .args in c .columns .result ≡ columns 3 (ends (now (args .table)) (args .row)) (now (args .table)) (args .row)
-ranged c = rw (← c .before .before .pre .0 .0) (c .columns .ensures)
+ranged : (c : tie.After-columns-fault)
+    → let args = c .before .before .args in c .columns-fault .result ≡ columnsFault 3 (endsColumns (now (args .table)) (args .row)) (now (args .table)) (args .row)
+ranged c = rw (← c .before .before .pre .0 .0) (c .columns-fault .ensures)
 
 returns : tie.Need-returns
 returns c = ends-columns _ _ (ranged (c .before .before)) (c .if1 .taken)
@@ -91,7 +91,7 @@ ends-fault-spec =
     cast-storey
     add-direction
     cast-direction
-    columns-requires
+    columns-fault-requires
     returns
     cell-requires
     wide-requires

@@ -10,12 +10,12 @@ cell-requires c κs = search needs
 zone-requires : tie.Need-zone-requires
 zone-requires c κs = search needs
 
-columns-requires : tie.Need-columns-requires
-columns-requires c κs = search needs
+columns-fault-requires : tie.Need-columns-fault-requires
+columns-fault-requires c κs = search needs
 
 returns : tie.Need-returns
 unfolding houseFault
-returns c = rw (← c .before .before .cell .ensures, ← c .before .zone .ensures) (c .columns .ensures)
+returns c = rw (← c .before .before .cell .ensures, ← c .before .zone .ensures) (c .columns-fault .ensures)
 
 pub house-fault-spec : {M : Type 1} → statement M
-house-fault-spec = tie.close (tie.spec cell-requires zone-requires columns-requires returns)
+house-fault-spec = tie.close (tie.spec cell-requires zone-requires columns-fault-requires returns)

@@ -9,11 +9,11 @@ use Rattle.survey.proofs.Cases.{parts-columns, parts-absent, parts-none
 use Rattle.survey.proofs.rows.parts_fault.Statement.{statement}
 use Rattle.survey.proofs.rows.parts_fault.Tie as tie
 
-columns-requires : tie.Need-columns-requires
-columns-requires c κs = search needs
+columns-fault-requires : tie.Need-columns-fault-requires
+columns-fault-requires c κs = search needs
 
 returns : tie.Need-returns
-returns c = parts-columns _ _ (c .before .before .columns .ensures) (c .if1 .taken)
+returns c = parts-columns _ _ (c .before .before .columns-fault .ensures) (c .if1 .taken)
 
 cell-requires : tie.Need-cell-requires
 cell-requires c κs = search needs
@@ -28,7 +28,7 @@ returns-2 : tie.Need-returns-2
 returns-2 c =
     let at-marked = c .before .before in
     let at-if1 = at-marked .before .before in
-    c .fault-at .ensures ∙ parts-absent _ _ (at-if1 .before .before .columns .ensures) (at-if1 .if1 .left)
+    c .fault-at .ensures ∙ parts-absent _ _ (at-if1 .before .before .columns-fault .ensures) (at-if1 .if1 .left)
     (rw (← at-marked .cell2 .ensures, ← at-marked .before .cell .ensures) (c .before .if2 .taken))
 
 -- Every mark is on a part that is present.
@@ -44,7 +44,7 @@ returns-3 c =
     let at-if2 = c .before .before in
     let at-marked = at-if2 .before in
     let at-if1 = at-marked .before .before in
-    c .fault-at2 .ensures ∙ parts-none _ _ (at-if1 .before .before .columns .ensures) (at-if1 .if1 .left) (all at-if2) (omega arith)
+    c .fault-at2 .ensures ∙ parts-none _ _ (at-if1 .before .before .columns-fault .ensures) (at-if1 .if1 .left) (all at-if2) (omega arith)
 
 no-fault-requires : tie.Need-no-fault-requires
 no-fault-requires c κs = search needs
@@ -54,14 +54,14 @@ returns-4 c =
     let at-if2 = c .before .before in
     let at-marked = at-if2 .before in
     let at-if1 = at-marked .before .before in
-    c .no-fault .ensures ∙ parts-right _ _ (at-if1 .before .before .columns .ensures) (at-if1 .if1 .left) (all at-if2)
+    c .no-fault .ensures ∙ parts-right _ _ (at-if1 .before .before .columns-fault .ensures) (at-if1 .if1 .left) (all at-if2)
     (rw (← at-marked .before .cell .ensures) (c .before .if3 .left))
 
 pub parts-fault-spec : {M : Type 1} → statement M
 parts-fault-spec =
     tie.close
     (tie.spec
-    columns-requires
+    columns-fault-requires
     returns
     cell-requires
     cell-requires-2

@@ -7,12 +7,12 @@ use Rattle.survey.proofs.rows.storey_fault.Tie as tie
 cast-storey : tie.Need-cast-storey
 cast-storey c = search needs
 
-columns-requires : tie.Need-columns-requires
-columns-requires c κs = search needs
+columns-fault-requires : tie.Need-columns-fault-requires
+columns-fault-requires c κs = search needs
 
 returns : tie.Need-returns
 unfolding storeyFault
-returns c = c .columns .ensures
+returns c = c .columns-fault .ensures
 
 pub storey-fault-spec : {M : Type 1} → statement M
-storey-fault-spec = tie.close (tie.spec cast-storey columns-requires returns)
+storey-fault-spec = tie.close (tie.spec cast-storey columns-fault-requires returns)

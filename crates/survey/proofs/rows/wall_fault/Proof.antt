@@ -26,11 +26,11 @@ rises : (c : tie.Else1)
     → let args = c .before .before .before .before .args in storeyBefore (now (args .table)) (args .row) ≤ cell (now (args .table)) (args .row) 1
 rises c = rw (← c .before .before .cell .ensures, ← c .before .storey-before .ensures) (c .if1 .left)
 
-wall-columns-requires : tie.Need-wall-columns-requires
-wall-columns-requires c κs = search needs
+wall-columns-fault-requires : tie.Need-wall-columns-fault-requires
+wall-columns-fault-requires c κs = search needs
 
 returns-2 : tie.Need-returns-2
-returns-2 c = wall-columns _ _ (rises (c .before .before .before)) (c .before .before .wall-columns .ensures) (c .if2 .taken)
+returns-2 c = wall-columns _ _ (rises (c .before .before .before)) (c .before .before .wall-columns-fault .ensures) (c .if2 .taken)
 
 add-if3 : tie.Need-add-if3
 add-if3 c = search needs
@@ -43,7 +43,7 @@ returns-3 c =
     let at-if2 = c .before .before in
     let at-columns = at-if2 .before .before in
     let first = at-columns .before .before .before .before .before .pre .1 .0 .0 in
-    c .fault-at2 .ensures ∙ wall-too-many _ _ (rises (at-columns .before)) (at-columns .wall-columns .ensures) (at-if2 .if2 .left) (rw (← first) (c .before .if3 .taken))
+    c .fault-at2 .ensures ∙ wall-too-many _ _ (rises (at-columns .before)) (at-columns .wall-columns-fault .ensures) (at-if2 .if2 .left) (rw (← first) (c .before .if3 .taken))
 
 no-fault-requires : tie.Need-no-fault-requires
 no-fault-requires c κs = search needs
@@ -53,7 +53,7 @@ returns-4 c =
     let at-if2 = c .before .before in
     let at-columns = at-if2 .before .before in
     let first = at-columns .before .before .before .before .before .pre .1 .0 .0 in
-    c .no-fault .ensures ∙ wall-right _ _ (rises (at-columns .before)) (at-columns .wall-columns .ensures) (at-if2 .if2 .left) (rw (← first) (c .before .if3 .left))
+    c .no-fault .ensures ∙ wall-right _ _ (rises (at-columns .before)) (at-columns .wall-columns-fault .ensures) (at-if2 .if2 .left) (rw (← first) (c .before .if3 .left))
 
 pub wall-fault-spec : {M : Type 1} → statement M
 wall-fault-spec =
@@ -63,7 +63,7 @@ wall-fault-spec =
     storey-before-requires
     fault-at-requires
     returns
-    wall-columns-requires
+    wall-columns-fault-requires
     returns-2
     add-if3
     fault-at-requires-2
