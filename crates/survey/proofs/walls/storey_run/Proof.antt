@@ -44,7 +44,7 @@ part-result-start : tie.Need-part-result-start
 part-result-start c = search needs
 
 part-result-end : tie.Need-part-result-end
-part-result-end c = run-fits c
+part-result-end c = omega (arith, run-fits c)
 
 returns : tie.Need-returns
 unfolding storeyRun
