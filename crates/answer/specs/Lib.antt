@@ -2,4 +2,3 @@
 pub mod Told
 pub mod First
 pub mod Length
-pub mod P1

@@ -6,9 +6,10 @@ use native.Mathlib.Nat.{mul-suc, mul-zero, mul-le-mul-left, not-suc-le-zero}
 use native.Mathlib.Numerals.{add-one}
 use native.Mathlib.Decide.{decLt}
 use native.Mathlib.Omega.{arith}
-use lib.ListN.{length, getD, take, drop, set, length-append, length-take, length-drop, drop-of-length-le}
-use lib.Seq.{sets, sets-eq, set-split, take-at, drop-at, drop-drop, take-append-le, drop-append-le, take-all, take-add, take-suc, getD-take, getD-drop, append-snoc}
+use lib.ListN.{length, getD, take, drop, set, length-append, length-drop, drop-of-length-le}
+use lib.Seq.{sets, sets-eq, set-split, take-at, drop-at, drop-drop, take-append-le, drop-append-le, take-all, take-add, take-suc, append-snoc}
 use borrow.Rule.Slice.PartMut.{putMid, postOf, post-is}
+use Rattle.answer.proofs.Parts.{lent-part, part-size, part-element}
 use Rattle.sheet.specs.Line.{joined, part}
 use Rattle.sheet.specs.Sheet.{over}
 
@@ -55,14 +56,12 @@ part-put a size l y =
 -- Parts.
 pub part-length : (size i : ℕ) (l : List ℕ) → size * i + size ≤ length l → length (part size i l) ≡ size
 unfolding part
-part-length size i l h = simp (length-take, length-drop) (omega arith)
+part-length size i l h = part-size (size * i) size l h
 
 -- A part as the code lends it, from a start to an end.
 pub part-lent : (size i : ℕ) (l : List ℕ) → take (size * i + size - size * i) (drop (size * i) l) ≡ part size i l
 unfolding part
-part-lent size i l =
-    let all : size * i + size - size * i ≡ size = omega arith in
-    rw all
+part-lent size i l = lent-part (size * i) size l
 
 pub part-append : (size i : ℕ) (l m : List ℕ) → size * i + size ≤ length l → part size i (l ++ m) ≡ part size i l
 unfolding part
@@ -72,7 +71,7 @@ part-append size i l m h =
 
 pub part-at : (size i : ℕ) (l : List ℕ) (j : ℕ) → j < size → getD (part size i l) j 0 ≡ getD l (size * i + j) 0
 unfolding part
-part-at size i l j h = rw (getD-take, getD-drop)
+part-at size i l j h = part-element (size * i) size l j h
 
 -- Joined lists, each as long as the others.
 module _ (size : ℕ) (f : ℕ → List ℕ) (long : (i : ℕ) → length (f i) ≡ size) where

@@ -7,10 +7,11 @@ use native.Mathlib.Nat.{mul-suc, add-zero, add-suc, zero-add, le-refl, le-trans}
 use native.Mathlib.Decide.{decLt}
 use native.Mathlib.Omega.{arith}
 use lib.Dec.{T}
-use lib.ListN.{length, getD, take, drop, length-take, length-drop}
-use lib.Seq.{take-add, drop-drop, getD-take, getD-drop}
+use lib.ListN.{length, getD, take, drop}
+use lib.Seq.{take-add, drop-drop}
 use borrow.Author.Tests.{eqb-true, eq-eqb, ne-eqb, not-true, not-false}
 use Rattle.answer.specs.First.{first}
+use Rattle.answer.proofs.Parts.{lent-part, part-size, part-element}
 use Rattle.answer.proofs.Places.{before-first, at-first, first-most}
 use Rattle.survey.specs.Table.{cell, isWall, storeys, firstWall, partsRow, rowsDue}
 use Rattle.survey.specs.Judgement.{mostWalls, judging}
@@ -20,20 +21,18 @@ use Rattle.survey.proofs.Acceptance.{Accepted, accepted}
 -- Rows as the code lends them, from a start to an end.
 pub rows-lent : (table : List ℕ) (row count : ℕ) → take (8 * row + 8 * count - 8 * row) (drop (8 * row) table) ≡ rowsFrom table row count
 unfolding rowsFrom
-rows-lent table row count =
-    let all : 8 * row + 8 * count - 8 * row ≡ 8 * count = omega arith in
-    rw all
+rows-lent table row count = lent-part (8 * row) (8 * count) table
 
 -- A number of a part that is shown, by its place in the table.
 pub rows-cell : (table : List ℕ) (row count i j : ℕ) → i < count → j < 8 → cell (rowsFrom table row count) i j ≡ cell table (row + i) j
 unfolding rowsFrom
 rows-cell table row count i j h l =
     let same : 8 * row + (8 * i + j) ≡ 8 * (row + i) + j = omega arith in
-    getD-take (8 * count) (drop (8 * row) table) (8 * i + j) 0 (omega arith) ∙ getD-drop (8 * row) table (8 * i + j) 0 ∙ ap (λ (k : ℕ). getD table k 0) same
+    part-element (8 * row) (8 * count) table (8 * i + j) (omega arith) ∙ ap (λ (k : ℕ). getD table k 0) same
 
 pub rows-length : (table : List ℕ) (row count : ℕ) → 8 * row + 8 * count ≤ length table → length (rowsFrom table row count) ≡ 8 * count
 unfolding rowsFrom
-rows-length table row count h = simp (length-take, length-drop) (omega arith)
+rows-length table row count h = part-size (8 * row) (8 * count) table h
 
 -- One row more.
 rows-more : (table : List ℕ) (row n : ℕ) → rowsFrom table row n ++ rowsFrom table (row + n) 1 ≡ rowsFrom table row (suc n)

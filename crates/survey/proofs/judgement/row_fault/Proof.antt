@@ -9,21 +9,21 @@ use Rattle.survey.proofs.Cases.{row-storey, row-ends, row-wall, row-par
 use Rattle.survey.proofs.judgement.row_fault.Statement.{statement}
 use Rattle.survey.proofs.judgement.row_fault.Tie as tie
 
--- What is known at the start of the walk: the house's storeys, the parts' row, and that the house's own row is past.
-high : (c : tie.Start) → c .args .storeys ≡ storeys (now (c .args .table))
-high c = c .pre .0 .0
+-- What the caller says: the house's storeys, the parts' row, and that the house's own row is past.
+storeys-known : (c : tie.Start) → c .args .storeys ≡ storeys (now (c .args .table))
+storeys-known c = c .pre .0 .0
 
-low : (c : tie.Start) → c .args .parts ≡ partsRow (now (c .args .table))
-low c = c .pre .0 .2
+parts-known : (c : tie.Start) → c .args .parts ≡ partsRow (now (c .args .table))
+parts-known c = c .pre .0 .2
 
 later : (c : tie.Start) → 0 < c .args .row
 later c = c .pre .0 .3
 
 above : (c : tie.Else1) → storeys (now (c .before .before .args .table)) < c .before .before .args .row
-above c = rw (← high (c .before .before)) (c .if1 .left)
+above c = rw (← storeys-known (c .before .before)) (c .if1 .left)
 
 past : (c : tie.Else2) → firstWall (now (c .before .before .before .args .table)) ≤ c .before .before .before .args .row
-past c = rw (← high (c .before .before .before)) (c .if2 .left)
+past c = rw (← storeys-known (c .before .before .before)) (c .if2 .left)
 
 storey-fault-requires : tie.Need-storey-fault-requires
 storey-fault-requires c κs = search needs
@@ -31,7 +31,7 @@ storey-fault-requires c κs = search needs
 returns : tie.Need-returns
 returns c =
     let start = c .before .before .before in
-    c .storey-fault .ensures ∙ row-storey _ _ (later start) (rw (← high start) (c .before .if1 .taken))
+    c .storey-fault .ensures ∙ row-storey _ _ (later start) (rw (← storeys-known start) (c .before .if1 .taken))
 
 mul-first : tie.Need-mul-first
 mul-first c = search needs
@@ -46,7 +46,7 @@ returns-2 : tie.Need-returns-2
 returns-2 c =
     let at-if1 = c .before .before in
     let start = at-if1 .before .before in
-    c .ends-fault .ensures ∙ row-ends _ _ (later start) (above at-if1) (rw (← high start) (c .before .if2 .taken))
+    c .ends-fault .ensures ∙ row-ends _ _ (later start) (above at-if1) (rw (← storeys-known start) (c .before .if2 .taken))
 
 cast-wall-fault : tie.Need-cast-wall-fault
 cast-wall-fault c = search needs
@@ -58,7 +58,7 @@ returns-3 : tie.Need-returns-3
 returns-3 c =
     let at-if2 = c .before .before in
     let start = at-if2 .before .before .before in
-    c .wall-fault .ensures ∙ row-wall _ _ (later start) (above (at-if2 .before)) (past at-if2) (rw (← low start) (c .before .if3 .taken))
+    c .wall-fault .ensures ∙ row-wall _ _ (later start) (above (at-if2 .before)) (past at-if2) (rw (← parts-known start) (c .before .if3 .taken))
 
 parts-fault-requires : tie.Need-parts-fault-requires
 parts-fault-requires c κs = search needs
@@ -67,7 +67,7 @@ returns-4 : tie.Need-returns-4
 returns-4 c =
     let at-if2 = c .before .before .before in
     let start = at-if2 .before .before .before in
-    c .parts-fault .ensures ∙ row-parts _ _ (later start) (above (at-if2 .before)) (past at-if2) (c .before .if4 .taken ∙ low start)
+    c .parts-fault .ensures ∙ row-parts _ _ (later start) (above (at-if2 .before)) (past at-if2) (c .before .if4 .taken ∙ parts-known start)
 
 fault-at-requires : tie.Need-fault-at-requires
 fault-at-requires c κs = search needs
@@ -76,7 +76,7 @@ returns-5 : tie.Need-returns-5
 returns-5 c =
     let at-if2 = c .before .before .before in
     let start = at-if2 .before .before .before in
-    c .fault-at .ensures ∙ row-after _ _ (later start) (above (at-if2 .before)) (past at-if2) (rw (← low start) (omega arith))
+    c .fault-at .ensures ∙ row-after _ _ (later start) (above (at-if2 .before)) (past at-if2) (rw (← parts-known start) (omega arith))
 
 pub row-fault-spec : {M : Type 1} → statement M
 row-fault-spec =
