@@ -1,0 +1,11 @@
+pub mod Branches
+pub mod Products
+pub mod Tables
+pub mod Factors
+pub mod Shares
+pub mod Requirements
+pub mod Bands
+pub mod Points
+pub mod Fractions
+pub mod Falling
+pub mod Examples

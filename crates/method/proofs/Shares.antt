@@ -1,0 +1,50 @@
+-- How much a wall can count, and how much a house's walls together. Assumes nothing.
+use mathlib.Core.List.{List, [], _∷_}
+use Prim.Native.Nat.{ℕ, suc, _*_, _<_, _≤_, suc-le-suc, min}
+use native.Mathlib.Nat.{min-le-right, mul-le-mul, mul-le-mul-right, zero-lt-suc}
+use native.Mathlib.Omega.{arith}
+use lib.ListN.{length, getD}
+use lib.Dec.{eqb, lit≤}
+use Rattle.method.specs.Held.{position, foundationUsed, solidShare, openingShare, wallShare, heldStrength, mostHeld}
+use Rattle.method.proofs.Branches.{cond-most}
+use Rattle.method.proofs.Factors.{joint-most}
+
+-- The most that a wall can count: strength 100, factor 100, length 20,000.
+abbrev pub mostShare : ℕ
+mostShare = 100 * 100 * 20000
+
+module _ (storeys storey foundation joint strength length : ℕ) (short : length ≤ 20000) where
+  pub solid-most : solidShare storeys storey foundation joint strength length ≤ mostShare
+  unfolding solidShare
+  solid-most =
+      mul-le-mul
+      (mul-le-mul (min-le-right strength 100) (joint-most (position storeys storey) (foundationUsed storeys storey foundation) joint strength))
+      short
+
+  opening-most : (kind : ℕ) → kind ≤ 6 → openingShare kind length ≤ mostShare
+  unfolding openingShare
+  opening-most kind weak =
+      let most : kind * 100 * min length 3000 ≤ 6 * 100 * 3000 = mul-le-mul (mul-le-mul-right 100 weak) (min-le-right length 3000) in
+      omega arith
+
+  pub share-most : (type : ℕ) → wallShare storeys storey foundation type joint strength length ≤ mostShare
+  unfolding wallShare
+  share-most type =
+      cond-most (eqb type 1) (λ e. solid-most)
+      (λ e. cond-most (eqb type 2) (λ d. opening-most 6 (lit≤ tt))
+      (λ d. cond-most (eqb type 3) (λ f. opening-most 3 (lit≤ tt)) (λ f. lit≤ tt)))
+
+-- The sum over walls that each count at most so much.
+pub held-per-wall : (shares : List ℕ) → ((k : ℕ) → k < length shares → getD shares k 0 ≤ mostShare) → heldStrength shares ≤ length shares * mostShare
+unfolding heldStrength
+held-per-wall [] each = lit≤ tt
+held-per-wall (share ∷ shares) each =
+    let here : share ≤ mostShare = each 0 (zero-lt-suc (length shares)) in
+    let rest : heldStrength shares ≤ length shares * mostShare = held-per-wall shares (λ k h. each (suc k) (suc-le-suc h)) in
+    omega arith
+
+-- 300 walls hold at most 60,000,000,000.
+pub held-most : (shares : List ℕ) → length shares ≤ 300 → ((k : ℕ) → k < length shares → getD shares k 0 ≤ mostShare) → heldStrength shares ≤ mostHeld
+held-most shares few each =
+    let all : heldStrength shares ≤ length shares * mostShare = held-per-wall shares each in
+    omega arith

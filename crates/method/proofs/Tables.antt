@@ -1,0 +1,74 @@
+-- Printed tables: an element by its number, and rules that hold throughout a table by one test that is computed. Assumes nothing.
+use mathlib.Core.Path.{_≡_, refl, sym, ap, subst}
+use mathlib.Core.Bool.{Bool, true, false, not, _&&_, _||_}
+use mathlib.Core.List.{List, [], _∷_}
+use Prim.Native.Nat.{ℕ, zero, suc, _-_, _<_, _≤_}
+use native.Mathlib.Omega.{arith}
+use native.Mathlib.Decide.{decLt}
+use lib.ListN.{length, getD, List·getD-eq-default}
+use lib.Dec.{T, leb}
+use Rattle.method.specs.Printed.{nth}
+
+module _ {A : Type 0} (list : List A) where
+  -- A number of the list, from 1.
+  pub nth-is : (n : ℕ) (none : A) → 1 ≤ n → nth list n none ≡ getD list (n - 1) none
+  unfolding nth
+  nth-is zero none h = absurd (omega arith)
+  nth-is (suc n) none h = ap (λ (k : ℕ). getD list k none) (omega arith)
+
+  -- Nothing is numbered 0, or beyond the list.
+  pub nth-none : (n : ℕ) (none : A) → (1 ≤ n → n ≤ length list → ⊥) → nth list n none ≡ none
+  unfolding nth
+  nth-none zero none h = refl
+  nth-none (suc n) none h = List·getD-eq-default list none (omega (arith, h (omega arith)))
+
+pub both-left : (a b : Bool) → a && b ≡ true → a ≡ true
+both-left true b h = refl
+both-left false b h = h
+
+pub both-right : (a b : Bool) → a && b ≡ true → b ≡ true
+both-right true b h = h
+both-right false b h = absurd (subst T (sym h) tt)
+
+-- A test of which one part is asked only where the other holds.
+pub implied : (a : Bool) {b : Bool} → not a || b ≡ true → a ≡ true → b ≡ true
+implied true h e = h
+implied false h e = absurd (subst T (sym e) tt)
+
+-- A test that every element passes.
+abbrev pub every : {A : Type 0} → (A → Bool) → List A → Bool
+every passes [] = true
+every passes (x ∷ xs) = passes x && every passes xs
+
+module _ {A : Type 0} (passes : A → Bool) {none : A} (default : passes none ≡ true) where
+  pub getD-every : (list : List A) → every passes list ≡ true → (n : ℕ) → passes (getD list n none) ≡ true
+  getD-every [] h n = default
+  getD-every (x ∷ xs) h zero = both-left (passes x) (every passes xs) h
+  getD-every (x ∷ xs) h (suc n) = getD-every xs (both-right (passes x) (every passes xs) h) n
+
+  pub nth-every : (list : List A) → every passes list ≡ true → (n : ℕ) → passes (nth list n none) ≡ true
+  unfolding nth
+  nth-every list h zero = default
+  nth-every list h (suc n) = getD-every list h n
+
+-- The test that an entry is at most so many.
+abbrev pub small : ℕ → ℕ → Bool
+small most entry = leb entry most
+
+-- The test that a line is at most so long.
+abbrev pub short : {A : Type 0} → ℕ → List A → Bool
+short most line = leb (length line) most
+
+-- A test that every number below a bound passes.
+unfoldable pub everyBelow : ℕ → (ℕ → Bool) → Bool
+everyBelow zero passes = true
+everyBelow (suc n) passes = passes n && everyBelow n passes
+
+pub at-every : (n : ℕ) (passes : ℕ → Bool) → everyBelow n passes ≡ true → (k : ℕ) → k < n → passes k ≡ true
+unfolding everyBelow
+at-every zero passes h k less = absurd (omega arith)
+at-every (suc n) passes h k less = go (decLt k n) (at-every n passes (both-right (passes n) (everyBelow n passes) h) k)
+  where
+    go : Dec (k < n) → (k < n → passes k ≡ true) → passes k ≡ true
+    go (yes below) rest = rest below
+    go (no last) rest = subst (λ (m : ℕ). passes m ≡ true) (omega (arith, last)) (both-left (passes n) (everyBelow n passes) h)

@@ -1,0 +1,23 @@
+-- `opening_share` is what its definition says. Assumes nothing.
+use native.Mathlib.Omega.{arith}
+use borrow.Author.Needs.{needs}
+use Rattle.method.specs.Held.{openingShare}
+use Rattle.method.proofs.Products.{times-fits}
+use Rattle.method.proofs.held.opening_share.Statement.{statement}
+use Rattle.method.proofs.held.opening_share.Tie as tie
+
+mul-result : tie.Need-mul-result
+mul-result c = search needs
+
+least-requires : tie.Need-least-requires
+least-requires c κs = search needs
+
+mul-result-2 : tie.Need-mul-result-2
+mul-result-2 c = times-fits 600 3000 (omega arith) (omega (arith, c .least .ensures)) tt
+
+returns : tie.Need-returns
+unfolding openingShare
+returns c = rw (← c .least .ensures)
+
+pub opening-share-spec : {M : Type 1} → statement M
+opening-share-spec = tie.close (tie.spec mul-result least-requires mul-result-2 returns)

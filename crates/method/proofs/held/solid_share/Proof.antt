@@ -1,0 +1,33 @@
+-- `solid_share` is what its definition says. Assumes nothing.
+use Prim.Native.Nat.{_*_}
+use native.Mathlib.Omega.{arith}
+use borrow.Author.Needs.{needs}
+use Rattle.method.specs.Held.{solidShare}
+use Rattle.method.proofs.Products.{times-most, times-fits}
+use Rattle.method.proofs.joints.joint_factor.Reads as joint-factor-reads
+use Rattle.method.proofs.held.solid_share.Statement.{statement}
+use Rattle.method.proofs.held.solid_share.Tie as tie
+
+joint-factor-requires : tie.Need-joint-factor-requires
+joint-factor-requires c κs = search needs
+
+least-requires : tie.Need-least-requires
+least-requires c κs = search needs
+
+cast-result : tie.Need-cast-result
+cast-result c = search needs
+
+mul-result : tie.Need-mul-result
+mul-result c = times-fits 100 255 (omega (arith, c .least .ensures)) (omega arith) tt
+
+mul-result-2 : tie.Need-mul-result-2
+mul-result-2 c = times-fits (100 * 255) 4294967295 (times-most 100 255 (omega (arith, c .least .ensures)) (omega arith)) (omega arith) tt
+
+returns : tie.Need-returns
+unfolding solidShare
+returns c = rw (← c .before .joint-factor .ensures, ← c .least .ensures)
+
+pub solid-share-spec : {M : Type 1} → statement M
+solid-share-spec =
+    tie.close
+    (tie.spec joint-factor-requires least-requires cast-result mul-result mul-result-2 returns)

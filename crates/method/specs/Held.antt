@@ -1,0 +1,99 @@
+-- What a wall counts towards the held strength. Document 01, "Held strength". "Unit: 0.000001 kN, whole numbers."
+use mathlib.Core.Bool.{cond, _&&_}
+use mathlib.Core.List.{List, [], _∷_}
+use Prim.Native.Nat.{ℕ, _+_, _-_, _*_, _/_, min}
+use lib.ListN.{getD}
+use lib.Dec.{eqb, ltb}
+use Rattle.method.specs.Printed.{nth}
+
+-- "000's table of reductions for column joints outside snow areas (its 'reference 2')", in hundredths, as it is printed: a line a joint; from
+-- the left the strengths 2.0, 3.0, 5.0 and 7.0 kN/m, in tables 2 and 3 each for foundations I, II and III.
+
+-- Reference 2, table 1: the top storey of two or three.
+abbrev pub topStorey : List (List ℕ)
+topStorey =
+    (100 ∷ 100 ∷ 100 ∷ 100 ∷ [])  -- joint I
+    ∷ (100 ∷ 80 ∷ 65 ∷ 50 ∷ [])  -- joint II
+    ∷ (70 ∷ 60 ∷ 45 ∷ 35 ∷ [])  -- joint III
+    ∷ (70 ∷ 35 ∷ 25 ∷ 20 ∷ [])  -- joint IV
+    ∷ []
+
+-- Reference 2, table 2: the other storeys of two or three.
+abbrev pub otherStorey : List (List (List ℕ))
+otherStorey =
+    ((100 ∷ 100 ∷ 100 ∷ []) ∷ (100 ∷ 90 ∷ 80 ∷ []) ∷ (100 ∷ 85 ∷ 70 ∷ []) ∷ (100 ∷ 80 ∷ 60 ∷ []) ∷ [])  -- joint I
+    ∷ ((100 ∷ 100 ∷ 100 ∷ []) ∷ (100 ∷ 90 ∷ 80 ∷ []) ∷ (90 ∷ 80 ∷ 70 ∷ []) ∷ (80 ∷ 70 ∷ 60 ∷ []) ∷ [])  -- joint II
+    ∷ ((100 ∷ 100 ∷ 100 ∷ []) ∷ (80 ∷ 80 ∷ 80 ∷ []) ∷ (70 ∷ 70 ∷ 70 ∷ []) ∷ (60 ∷ 60 ∷ 60 ∷ []) ∷ [])  -- joint III
+    ∷ ((100 ∷ 100 ∷ 100 ∷ []) ∷ (80 ∷ 80 ∷ 80 ∷ []) ∷ (70 ∷ 70 ∷ 70 ∷ []) ∷ (60 ∷ 60 ∷ 60 ∷ []) ∷ [])  -- joint IV
+    ∷ []
+
+-- Reference 2, table 3: one storey.
+abbrev pub oneStorey : List (List (List ℕ))
+oneStorey =
+    ((100 ∷ 85 ∷ 70 ∷ []) ∷ (100 ∷ 85 ∷ 70 ∷ []) ∷ (100 ∷ 80 ∷ 70 ∷ []) ∷ (100 ∷ 80 ∷ 70 ∷ []) ∷ [])  -- joint I
+    ∷ ((100 ∷ 85 ∷ 70 ∷ []) ∷ (90 ∷ 75 ∷ 70 ∷ []) ∷ (85 ∷ 70 ∷ 65 ∷ []) ∷ (80 ∷ 70 ∷ 60 ∷ []) ∷ [])  -- joint II
+    ∷ ((70 ∷ 70 ∷ 70 ∷ []) ∷ (60 ∷ 60 ∷ 60 ∷ []) ∷ (50 ∷ 50 ∷ 50 ∷ []) ∷ (30 ∷ 30 ∷ 30 ∷ []) ∷ [])  -- joints III and IV
+    ∷ []
+
+-- Which of the three tables a storey takes: 1 the top storey of two or three, 2 another storey of two or three, 3 one storey.
+unfoldable pub position : ℕ → ℕ → ℕ
+position storeys storey = cond (eqb storeys 1) 3 (cond (eqb storey storeys) 1 2)
+
+-- "The middle storey of three uses foundation 1."
+unfoldable pub foundationUsed : ℕ → ℕ → ℕ → ℕ
+foundationUsed storeys storey foundation = cond (eqb storeys 3 && eqb storey 2) 1 foundation
+
+-- "In one storey joints 3 and 4 share a row."
+unfoldable pub sharedRow : ℕ → ℕ
+sharedRow joint = cond (eqb joint 4) 3 joint
+
+-- The printed entry of a position, a foundation 1 to 3 and a joint 1 to 4, in a column of strength, from 0. The first table has no
+-- foundations. Where there is no such foundation or joint it is 0.
+unfoldable pub entry : ℕ → ℕ → ℕ → ℕ → ℕ
+entry position foundation joint column =
+    cond (eqb position 1) (getD (nth topStorey joint []) column 0)
+    (cond (eqb position 2) (nth (getD (nth otherStorey joint []) column []) foundation 0)
+    (nth (getD (nth oneStorey (sharedRow joint) []) column []) foundation 0))
+
+-- "Between, go straight from entry to entry and round to the nearest hundredth, half up": from one strength and its entry to the next.
+unfoldable pub straight : ℕ → ℕ → ℕ → ℕ → ℕ → ℕ
+straight from to left right strength =
+    (2 * (left * (to - strength) + right * (strength - from)) + (to - from)) / (2 * (to - from))
+
+-- "Below 2.0 the 2.0 entry holds, above 7.0 the 7.0 entry." Strength is in 0.1 kN/m.
+unfoldable pub alongRow : (ℕ → ℕ) → ℕ → ℕ
+alongRow row strength =
+    cond (ltb strength 20) (row 0)
+    (cond (ltb strength 30) (straight 20 30 (row 0) (row 1) strength)
+    (cond (ltb strength 50) (straight 30 50 (row 1) (row 2) strength)
+    (cond (ltb strength 70) (straight 50 70 (row 2) (row 3) strength)
+    (row 3))))
+
+-- Document 01's joint factor (000's Kj), in hundredths.
+unfoldable pub jointFactor : ℕ → ℕ → ℕ → ℕ → ℕ
+jointFactor position foundation joint strength = alongRow (entry position foundation joint) strength
+
+-- "A solid wall counts strength (at most 100) × joint factor in hundredths × length."
+unfoldable pub solidShare : ℕ → ℕ → ℕ → ℕ → ℕ → ℕ → ℕ
+solidShare storeys storey foundation joint strength length =
+    min strength 100 * jointFactor (position storeys storey) (foundationUsed storeys storey foundation) joint strength * length
+
+-- "A window counts 6 and a full-height opening 3, × 100 × length, with length at most 3,000."
+unfoldable pub openingShare : ℕ → ℕ → ℕ
+openingShare strength length = strength * 100 * min length 3000
+
+-- What a wall of a type (1 solid, 2 window opening, 3 full-height opening) counts; 0 for any other type.
+unfoldable pub wallShare : ℕ → ℕ → ℕ → ℕ → ℕ → ℕ → ℕ → ℕ
+wallShare storeys storey foundation type joint strength length =
+    cond (eqb type 1) (solidShare storeys storey foundation joint strength length)
+    (cond (eqb type 2) (openingShare 6 length)
+    (cond (eqb type 3) (openingShare 3 length) 0))
+
+-- "Held strength of a storey and direction is the sum over its walls", here of what each of them counts.
+unfoldable pub heldStrength : List ℕ → ℕ
+heldStrength [] = 0
+heldStrength (share ∷ shares) = share + heldStrength shares
+
+-- The most that a house can hold: 300 walls of strength 100, factor 100 and length 20,000.
+abbrev pub mostHeld : ℕ
+mostHeld = 300 * (100 * 100 * 20000)

@@ -1,0 +1,7 @@
+-- The definitions that the method's promises and laws cite, in document 01's order, a file a section. All are on plain numbers.
+pub mod Printed
+pub mod Held
+pub mod Required
+pub mod LayoutFactor
+pub mod Deterioration
+pub mod Score

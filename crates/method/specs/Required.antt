@@ -1,0 +1,49 @@
+-- The strength that a storey, or an end of it, must have. Document 01, "Required strength". "Unit: 0.000000001 kN."
+use mathlib.Core.Bool.{cond, _&&_}
+use mathlib.Core.List.{List, [], _∷_}
+use Prim.Native.Nat.{ℕ, _+_, _-_, _*_}
+use lib.ListN.{getD}
+use lib.Dec.{eqb, leb, ltb}
+use Rattle.method.specs.Printed.{nth}
+use Rattle.method.specs.Held.{mostHeld}
+
+-- "Constant in 0.01 kN/m²": 000's table 4.1 as it is printed, for light, heavy and very heavy buildings; of houses of one and two storeys
+-- the first two columns are also 003's table 1.
+abbrev pub constants : List (List ℕ)
+constants =
+    (28 ∷ 40 ∷ 64 ∷ [])  -- one storey
+    ∷ (37 ∷ 53 ∷ 78 ∷ [])  -- two storeys: storey 2
+    ∷ (83 ∷ 106 ∷ 141 ∷ [])  -- storey 1
+    ∷ (43 ∷ 62 ∷ 91 ∷ [])  -- three storeys: storey 3
+    ∷ (98 ∷ 125 ∷ 159 ∷ [])  -- storey 2
+    ∷ (134 ∷ 166 ∷ 207 ∷ [])  -- storey 1
+    ∷ []
+
+-- The line of the table where a number of storeys begins, with its top storey.
+unfoldable pub topLine : ℕ → ℕ
+topLine storeys = cond (eqb storeys 1) 0 (cond (eqb storeys 2) 1 3)
+
+-- The constant of a storey of a part with so many storeys, and of a weight class. It is 0 where the part has no such storey or is not of one
+-- to three storeys, or the class is not 1 to 3.
+unfoldable pub constant : ℕ → ℕ → ℕ → ℕ
+constant storeys storey weight =
+    cond (leb 1 storey && leb storey storeys && leb storeys 3)
+    (nth (getD constants (topLine storeys + (storeys - storey)) []) weight 0) 0
+
+-- "ground (10 ordinary, 15 very soft)". Ground 1 is ordinary, 2 very soft.
+unfoldable pub groundFactor : ℕ → ℕ
+groundFactor ground = cond (ltb ground 2) 10 15
+
+-- "The narrow factor is 113 for the ground storey of two or three storeys whose short side is under 4,000 mm, else 100." The storeys are
+-- the house's.
+unfoldable pub narrowFactor : ℕ → ℕ → ℕ → ℕ
+narrowFactor storeys storey shortSide = cond (leb 2 storeys && eqb storey 1 && ltb shortSide 4000) 113 100
+
+-- "Constant in 0.01 kN/m² × area × zone × ground × narrow factor in hundredths." "An end uses its own area, its part's number of storeys
+-- for the constant, and its storey's other factors": so for a storey the storeys are the house's, for an end its part's.
+unfoldable pub requiredStrength : ℕ → ℕ → ℕ → ℕ → ℕ → ℕ → ℕ → ℕ
+requiredStrength storeys storey weight area zone ground narrow = constant storeys storey weight * area * zone * groundFactor ground * narrow
+
+-- The most held strength, in this unit: more than a house can need.
+abbrev pub mostRequired : ℕ
+mostRequired = 1000 * mostHeld

@@ -1,0 +1,17 @@
+-- A storey and direction's score, and a house's verdict. Document 01, "Score and verdict".
+use mathlib.Core.Bool.{cond}
+use Prim.Native.Nat.{ℕ, _*_, _/_, min}
+use lib.Dec.{leb}
+use Rattle.method.specs.declared.deterioration.Fraction.{Fraction}
+
+-- "Score in hundredths: 1,000 × held × layout × deterioration / required in the units above, rounded down, at most 999."
+unfoldable pub score : ℕ → ℕ → ℕ → Fraction → ℕ
+score held required layout deterioration = min (1000 * held * layout * deterioration .upper / (required * deterioration .lower)) 999
+
+-- "The score before the layout factor is the same with 100 for layout."
+abbrev pub scoreBeforeLayout : ℕ → ℕ → Fraction → ℕ
+scoreBeforeLayout held required deterioration = score held required 100 deterioration
+
+-- "Verdict by the least score: 1 from 150, 2 from 100, 3 from 70, else 4."
+unfoldable pub verdict : ℕ → ℕ
+verdict least = cond (leb 150 least) 1 (cond (leb 100 least) 2 (cond (leb 70 least) 3 4))

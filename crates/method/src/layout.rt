@@ -1,0 +1,107 @@
+// How far the layout of walls lowers a storey's strength: the bands of its ends, and its floor.
+use crate::limits::MOST_HELD;
+use crate::limits::MOST_REQUIRED;
+use crate::limits::least;
+ghost use mathlib.Core.Path.{_≡_};
+ghost use Prim.Native.Nat.{_≤_, min};
+ghost use Rattle.method.specs.Held.{mostHeld};
+ghost use Rattle.method.specs.Required.{mostRequired};
+ghost use Rattle.method.specs.LayoutFactor.{reached, band, floorType, layoutFactor};
+
+// 000's explanatory table 4.11, in hundredths: a line for each band of one end, and from the left the
+// bands of the other, each for floor types I, II and III.
+const LAYOUT_FACTORS: [[[u8; 3]; 5]; 5] = [
+    [
+        [100, 90, 80],
+        [70, 65, 60],
+        [65, 60, 55],
+        [60, 55, 50],
+        [55, 50, 45],
+    ], // A
+    [
+        [70, 65, 60],
+        [100, 90, 80],
+        [100, 90, 80],
+        [75, 70, 60],
+        [70, 65, 55],
+    ], // B
+    [
+        [65, 60, 55],
+        [100, 90, 80],
+        [100, 90, 80],
+        [100, 90, 80],
+        [100, 90, 80],
+    ], // C
+    [
+        [60, 55, 50],
+        [75, 70, 60],
+        [100, 90, 80],
+        [100, 100, 100],
+        [100, 100, 100],
+    ], // D
+    [
+        [55, 50, 45],
+        [70, 65, 55],
+        [100, 90, 80],
+        [100, 100, 100],
+        [100, 100, 100],
+    ], // E
+];
+
+// 1 where an end's sufficiency is at least so many hundredths, else 0.
+fn reached(held: u64, required: u64, limit: u64) -> u32
+    requires { ⌜ held ≤ mostHeld ⌝ }
+    requires { ⌜ required ≤ mostRequired ⌝ }
+    requires { ⌜ limit ≤ 133 ⌝ }
+    ensures { λ r. ⌜ r ≡ reached held required limit ⌝ }
+{
+    if limit * required <= 100000 * held {
+        return 1;
+    }
+    0
+}
+
+// The band of an end, A as 0 to E as 4, by its solid walls' held strength and its required strength.
+pub fn band(held: u64, required: u64) -> u32
+    ensures { λ r. ⌜ r ≡ band (min held mostHeld) (min required mostRequired) ⌝ }
+{
+    let holds = least(held, MOST_HELD);
+    let needs = least(required, MOST_REQUIRED);
+    reached(holds, needs, 33)
+        + reached(holds, needs, 66)
+        + reached(holds, needs, 100)
+        + reached(holds, needs, 133)
+}
+
+// The floor type that counts, where there is a void (1) or none (0).
+pub fn floor_type(floor: u32, void: u32) -> u32
+    ensures { λ r. ⌜ r ≡ floorType floor void ⌝ }
+{
+    if void == 1 {
+        if floor < 3 {
+            return floor + 1;
+        }
+        return 3;
+    }
+    floor
+}
+
+// The layout factor for the bands of both ends and a floor type, in hundredths; 0 where there is no such
+// band or floor type.
+pub fn layout_factor(one: u32, other: u32, floor: u32) -> u8
+    ensures { λ r. ⌜ r ≡ layoutFactor one other floor ⌝ }
+{
+    if 5 <= one {
+        return 0;
+    }
+    if 5 <= other {
+        return 0;
+    }
+    if floor < 1 {
+        return 0;
+    }
+    if 3 < floor {
+        return 0;
+    }
+    LAYOUT_FACTORS[one as usize][other as usize][(floor - 1) as usize]
+}

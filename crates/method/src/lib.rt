@@ -1,0 +1,26 @@
+// The manual's arithmetic on plain numbers, table by table and factor by factor.
+//
+// Uses no crate. Document 01, "Held strength" to "Score and verdict", a module a section and the
+// definitions in specs/ by the same names; 000's tables stand as const arrays in the module that
+// uses them. Every function open to callers takes any numbers and says by a definition what it
+// answers. The laws for comparing two houses are in proofs/.
+mod deterioration;
+mod held;
+mod joints;
+mod layout;
+mod limits;
+mod required;
+mod scores;
+
+pub use deterioration::Fraction;
+pub use deterioration::deterioration_factor;
+pub use held::wall_share;
+pub use joints::joint_factor;
+pub use layout::band;
+pub use layout::floor_type;
+pub use layout::layout_factor;
+pub use required::narrow_factor;
+pub use required::required_strength;
+pub use scores::score;
+pub use scores::score_before_layout;
+pub use scores::verdict;

@@ -1,0 +1,92 @@
+// The strength that a storey, or an end of it, must have, in 0.000000001 kN.
+ghost use mathlib.Core.Path.{_≡_};
+ghost use Rattle.method.specs.Required.{topLine, constant, groundFactor, narrowFactor, requiredStrength};
+
+// 000's table 4.1, in 0.01 kN/m²: light, heavy and very heavy buildings.
+const CONSTANTS: [[u8; 3]; 6] = [
+    [28, 40, 64], // one storey
+    [37, 53, 78], // two storeys: storey 2
+    [83, 106, 141], // storey 1
+    [43, 62, 91], // three storeys: storey 3
+    [98, 125, 159], // storey 2
+    [134, 166, 207], // storey 1
+];
+
+// The line of the table where a number of storeys begins, with its top storey.
+fn top_line(storeys: u32) -> u32
+    ensures { λ r. ⌜ r ≡ topLine storeys ⌝ }
+{
+    if storeys == 1 {
+        return 0;
+    }
+    if storeys == 2 {
+        return 1;
+    }
+    3
+}
+
+// The constant of a storey of a part with so many storeys; 0 where the table has none.
+fn constant(storeys: u32, storey: u32, weight: u32) -> u8
+    ensures { λ r. ⌜ r ≡ constant storeys storey weight ⌝ }
+{
+    if storey < 1 {
+        return 0;
+    }
+    if storeys < storey {
+        return 0;
+    }
+    if 3 < storeys {
+        return 0;
+    }
+    if weight < 1 {
+        return 0;
+    }
+    if 3 < weight {
+        return 0;
+    }
+    let line = top_line(storeys) + (storeys - storey);
+    CONSTANTS[line as usize][(weight - 1) as usize]
+}
+
+// Ground 1 is ordinary, 2 very soft.
+fn ground_factor(ground: u32) -> u8
+    ensures { λ r. ⌜ r ≡ groundFactor ground ⌝ }
+{
+    if ground < 2 {
+        return 10;
+    }
+    15
+}
+
+// The narrow factor of a storey, in hundredths, by the house's storeys and its own short side in mm.
+pub fn narrow_factor(storeys: u32, storey: u32, side: u32) -> u8
+    ensures { λ r. ⌜ r ≡ narrowFactor storeys storey side ⌝ }
+{
+    if storeys < 2 {
+        return 100;
+    }
+    if storey == 1 {
+        if side < 4000 {
+            return 113;
+        }
+    }
+    100
+}
+
+// The required strength of a storey, or of an end: then the storeys are its part's, the area is its own,
+// and the rest is its storey's. Area is in 0.01 m², zone and narrow factor in hundredths.
+pub fn required_strength(
+    storeys: u32,
+    storey: u32,
+    weight: u32,
+    area: u32,
+    zone: u8,
+    ground: u32,
+    narrow: u8,
+) -> u64
+    ensures { λ r. ⌜ r ≡ requiredStrength storeys storey weight area zone ground narrow ⌝ }
+{
+    let constant = constant(storeys, storey, weight);
+    let factor = ground_factor(ground);
+    constant as u64 * area as u64 * zone as u64 * factor as u64 * narrow as u64
+}

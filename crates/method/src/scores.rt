@@ -1,0 +1,48 @@
+// A storey and direction's score in hundredths, and a house's verdict.
+use crate::deterioration::Fraction;
+use crate::limits::MOST_HELD;
+use crate::limits::MOST_REQUIRED;
+use crate::limits::least;
+ghost use mathlib.Core.Path.{_≡_};
+ghost use Prim.Native.Nat.{min};
+ghost use Rattle.method.specs.Held.{mostHeld};
+ghost use Rattle.method.specs.Required.{mostRequired};
+ghost use Rattle.method.specs.Score.{score, scoreBeforeLayout, verdict};
+
+// The score of a held strength, a required strength, a layout factor in hundredths and a deterioration
+// factor. Nothing required is no house's; its quotient is 0.
+pub fn score(held: u64, required: u64, layout: u8, deterioration: Fraction) -> u32
+    ensures { λ r. ⌜ r ≡ score (min held mostHeld) (min required mostRequired) layout deterioration ⌝ }
+{
+    let holds = least(held, MOST_HELD);
+    let needs = least(required, MOST_REQUIRED);
+    let divisor = needs * deterioration.lower as u64;
+    if divisor == 0 {
+        return 0;
+    }
+    let dividend = 1000 * holds * layout as u64 * deterioration.upper as u64;
+    least(dividend / divisor, 999) as u32
+}
+
+// The score before the layout factor.
+pub fn score_before_layout(held: u64, required: u64, deterioration: Fraction) -> u32
+    ensures { λ r. ⌜ r ≡ scoreBeforeLayout (min held mostHeld) (min required mostRequired) deterioration ⌝ }
+{
+    score(held, required, 100, deterioration)
+}
+
+// The verdict of a house's least score, 1 to 4.
+pub fn verdict(lowest: u32) -> u32
+    ensures { λ r. ⌜ r ≡ verdict lowest ⌝ }
+{
+    if 150 <= lowest {
+        return 1;
+    }
+    if 100 <= lowest {
+        return 2;
+    }
+    if 70 <= lowest {
+        return 3;
+    }
+    4
+}
