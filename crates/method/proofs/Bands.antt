@@ -66,9 +66,9 @@ module _ (one other floor : ℕ) where
   pub layout-no-floor : (1 ≤ floor → floor ≤ 3 → ⊥) → 0 ≡ layoutFactor one other floor
   unfolding layoutFactor
   layout-no-floor none =
-      let cell = getD (getD layoutFactors one []) other [] in
-      let three : length cell ≤ 3 =
-      leb-true _ 3 (getD-every (short 3) refl (getD layoutFactors one []) (getD-every (every (short 3)) refl layoutFactors refl one) other) in
+      let row = getD layoutFactors one [] in
+      let cell = getD row other [] in
+      let three = leb-true (length cell) 3 (getD-every (short 3) refl row (getD-every (every (short 3)) refl layoutFactors refl one) other) in
       sym (nth-none cell floor 0 (λ some most. none some (le-trans most three)))
 
 -- No layout factor is above 100.
@@ -86,7 +86,8 @@ falling floor one other one' other' =
     not (leb one' one && leb other' other && eqb (max one' other') (max one other))
     || leb (layoutFactor one' other' floor) (layoutFactor one other floor)
 
-all-falling : everyBelow 4 (λ floor. everyBelow 5 (λ one. everyBelow 5 (λ other. everyBelow 5 (λ one'. everyBelow 5 (λ other'. falling floor one other one' other'))))) ≡ true
+all-falling :
+    everyBelow 4 (λ floor. everyBelow 5 (λ one. everyBelow 5 (λ other. everyBelow 5 (λ one'. everyBelow 5 (λ other'. falling floor one other one' other'))))) ≡ true
 unfolding everyBelow falling layoutFactor nth
 all-falling = refl
 
@@ -97,7 +98,9 @@ unfolding falling
 layout-falls {one} {other} {one'} {other'} {floor} hone hother hfloor lower lower' kept =
     leb-true (layoutFactor one' other' floor) (layoutFactor one other floor)
     (implied (leb one' one && leb other' other && eqb (max one' other') (max one other))
-    (at-every 5 _ (at-every 5 _ (at-every 5 _ (at-every 5 _ (at-every 4 _ all-falling floor (omega arith)) one (omega arith)) other (omega arith)) one' (omega arith)) other' (omega arith))
+    (at-every 5 _
+    (at-every 5 _ (at-every 5 _ (at-every 5 _ (at-every 4 _ all-falling floor (omega arith)) one (omega arith)) other (omega arith)) one' (omega arith))
+    other' (omega arith))
     (rw (le-leb one' one lower, le-leb other' other lower', eq-eqb (max one' other') (max one other) kept)))
 
 -- It does not matter which end is which.

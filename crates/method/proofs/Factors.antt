@@ -1,9 +1,9 @@
--- The joint factor never exceeds 100, whatever the wall. Assumes nothing.
+-- The joint factor: which printed entry it takes, and that it never exceeds 100. Assumes nothing.
 use mathlib.Core.Path.{_≡_, refl, sym}
 use mathlib.Core.Bool.{true, false}
 use mathlib.Core.List.{List, []}
-use Prim.Native.Nat.{ℕ, _+_, _-_, _*_, _/_, _<_, _≤_}
-use native.Mathlib.Nat.{le-trans, mul-le-mul-right, div-lt-iff-lt-mul}
+use Prim.Native.Nat.{ℕ, _-_, _*_, _<_, _≤_}
+use native.Mathlib.Nat.{le-of-suc-le-suc, le-trans, mul-le-mul-right, div-lt-iff-lt-mul}
 use native.Mathlib.Omega.{arith}
 use lib.ListN.{length, getD}
 use lib.Dec.{eqb, ltb, lit≤}
@@ -13,6 +13,7 @@ use Rattle.method.specs.Held.{topStorey, otherStorey, oneStorey, sharedR
 use Rattle.method.proofs.Branches.{cond-most, cond-least, cond-same}
 use Rattle.method.proofs.Tables.{nth-is, nth-none, every, getD-every, nth-every, small, short}
 
+-- No printed entry is above 100.
 module _ (position foundation joint column : ℕ) where
   top-most : getD (nth topStorey joint []) column 0 ≤ 100
   top-most = leb-true _ 100 (getD-every (small 100) refl (nth topStorey joint []) (nth-every (every (small 100)) refl topStorey refl joint) column)
@@ -91,22 +92,22 @@ unfolding straight
 straight-most from to left right strength l r above below =
     let one : left * (to - strength) ≤ 100 * (to - strength) = mul-le-mul-right (to - strength) l in
     let other : right * (strength - from) ≤ 100 * (strength - from) = mul-le-mul-right (strength - from) r in
-    let less : (2 * (left * (to - strength) + right * (strength - from)) + (to - from)) / (2 * (to - from)) < 101 =
-    div-lt-iff-lt-mul {k = 2 * (to - from)} (omega arith) .1 (omega arith) in
-    omega arith
+    le-of-suc-le-suc (div-lt-iff-lt-mul {k = 2 * (to - from)} (omega arith) .1 (omega arith))
 
 -- Along a line whose entries are at most 100.
-along-most : (row : ℕ → ℕ) → ((column : ℕ) → row column ≤ 100) → (strength : ℕ) → alongRow row strength ≤ 100
-unfolding alongRow
-along-most row most strength =
-    let line : (from to left right : ℕ) → ltb strength from ≡ false → ltb strength to ≡ true
-    → straight from to (row left) (row right) strength ≤ 100
-    = λ from to left right above below.
-    straight-most from to (row left) (row right) strength (most left) (most right) (ltb-false strength from above) (ltb-true strength to below) in
-    cond-most (ltb strength 20) (λ e. most 0)
-    (λ above-20. cond-most (ltb strength 30) (line 20 30 0 1 above-20)
-    (λ above-30. cond-most (ltb strength 50) (line 30 50 1 2 above-30)
-    (λ above-50. cond-most (ltb strength 70) (line 50 70 2 3 above-50) (λ above-70. most 3))))
+module _ (row : ℕ → ℕ) (most : (column : ℕ) → row column ≤ 100) (strength : ℕ) where
+  stretch-most : (from to left right : ℕ) → ltb strength from ≡ false → ltb strength to ≡ true
+      → straight from to (row left) (row right) strength ≤ 100
+  stretch-most from to left right above below =
+      straight-most from to (row left) (row right) strength (most left) (most right) (ltb-false strength from above) (ltb-true strength to below)
+
+  along-most : alongRow row strength ≤ 100
+  unfolding alongRow
+  along-most =
+      cond-most (ltb strength 20) (λ e. most 0)
+      (λ above-20. cond-most (ltb strength 30) (stretch-most 20 30 0 1 above-20)
+      (λ above-30. cond-most (ltb strength 50) (stretch-most 30 50 1 2 above-30)
+      (λ above-50. cond-most (ltb strength 70) (stretch-most 50 70 2 3 above-50) (λ above-70. most 3))))
 
 pub joint-most : (position foundation joint strength : ℕ) → jointFactor position foundation joint strength ≤ 100
 unfolding jointFactor

@@ -11,9 +11,10 @@ use Rattle.method.specs.declared.deterioration.Fraction.{Fraction}
 use Rattle.method.specs.Deterioration.{itemPoints, points, countedMarks, over, factorOf, deteriorationFactor}
 use Rattle.method.proofs.Points.{points-most, counted-rise}
 
--- A fraction above 0 and at most 1, of numbers up to 24.
+-- A fraction from 7/10 to 1, of numbers up to 24.
 pub record Proper (f : Fraction) : Type 0 where
   pub positive : 0 < f .lower
+  pub never-below : 7 * f .lower ≤ 10 * f .upper
   pub at-most-one : f .upper ≤ f .lower
   pub lower-most : f .lower ≤ 24
 
@@ -30,10 +31,12 @@ cond-proper false one other = other refl
 factor-proper : (present marked : ℕ) → present ≤ 24 → Proper (factorOf present marked)
 unfolding factorOf
 factor-proper present marked few =
-    cond-proper (eqb marked 0) (λ e. record { positive = lit< tt; at-most-one = lit≤ tt; lower-most = lit≤ tt })
-    (λ some. cond-proper (ltb (10 * present) (7 * present + 10 * marked)) (λ e. record { positive = lit< tt; at-most-one = lit≤ tt; lower-most = lit≤ tt })
+    cond-proper (eqb marked 0) (λ e. record { positive = lit< tt; never-below = lit≤ tt; at-most-one = lit≤ tt; lower-most = lit≤ tt })
+    (λ some. cond-proper (ltb (10 * present) (7 * present + 10 * marked))
+    (λ e. record { positive = lit< tt; never-below = lit≤ tt; at-most-one = lit≤ tt; lower-most = lit≤ tt })
     (λ e. record {
       positive = omega (arith, eqb-false marked 0 some, ltb-false (10 * present) (7 * present + 10 * marked) e);
+      never-below = omega (arith, ltb-false (10 * present) (7 * present + 10 * marked) e);
       at-most-one = omega arith;
       lower-most = few;
     }))

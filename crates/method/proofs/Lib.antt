@@ -7,5 +7,5 @@ pub mod Requirements
 pub mod Bands
 pub mod Points
 pub mod Fractions
-pub mod Falling
+pub mod Comparisons
 pub mod Examples

@@ -17,16 +17,10 @@ use Rattle.method.proofs.Branches.{cond-most}
 -- The items of both of two sets, digit by digit.
 module _ (set other : ℕ) where
   and-first : bitAnd set other % 2 ≡ min (set % 2) (other % 2)
-  and-first =
-      let whole : bitAnd set other ≡ bitAnd (set / 2) (other / 2) * 2 + min (set % 2) (other % 2) = and-step set other in
-      let digit : min (set % 2) (other % 2) < 2 = omega arith in
-      omega arith
+  and-first = omega (arith, and-step set other)
 
   and-rest : bitAnd set other / 2 ≡ bitAnd (set / 2) (other / 2)
-  and-rest =
-      let whole : bitAnd set other ≡ bitAnd (set / 2) (other / 2) * 2 + min (set % 2) (other % 2) = and-step set other in
-      let digit : min (set % 2) (other % 2) < 2 = omega arith in
-      omega arith
+  and-rest = omega (arith, and-step set other)
 
 -- How many items of a weight are in a set, by a column of points.
 unfoldable itemsOf : ℕ → List ℕ → ℕ → ℕ
@@ -71,6 +65,10 @@ unfolding flag
 flagged true digit = omega arith
 flagged false digit = omega arith
 
+weighed : (p digit : ℕ) → isWeight p ≡ true → p * digit ≡ 4 * (flag (eqb p 4) * digit) + 2 * (flag (eqb p 2) * digit) + flag (eqb p 1) * digit
+unfolding isWeight
+weighed p digit h = ap (λ (q : ℕ). q * digit) (eqb-true p (4 * flag (eqb p 4) + 2 * flag (eqb p 2) + flag (eqb p 1)) h) ∙ simp (add-mul, mul-assoc)
+
 -- "The points follow from how many items of each weight are in the set."
 by-weight : (ps : List ℕ) → every isWeight ps ≡ true → (set : ℕ)
     → 4 * itemsOf 4 ps set + 2 * itemsOf 2 ps set + itemsOf 1 ps set ≡ points ps set
@@ -78,13 +76,8 @@ unfolding itemsOf points isWeight
 by-weight [] h set = refl
 by-weight (p ∷ ps) h set =
     let digit = set % 2 in
-    let four = flag (eqb p 4) in
-    let two = flag (eqb p 2) in
-    let one = flag (eqb p 1) in
-    let this : p * digit ≡ 4 * (four * digit) + 2 * (two * digit) + one * digit =
-    ap (λ (q : ℕ). q * digit) (eqb-true p (4 * four + 2 * two + one) (both-left (isWeight p) (every isWeight ps) h)) ∙ simp (add-mul, mul-assoc) in
-    let rest : 4 * itemsOf 4 ps (set / 2) + 2 * itemsOf 2 ps (set / 2) + itemsOf 1 ps (set / 2) ≡ points ps (set / 2) =
-    by-weight ps (both-right (isWeight p) (every isWeight ps) h) (set / 2) in
+    let this = weighed p digit (both-left (isWeight p) (every isWeight ps) h) in
+    let rest = by-weight ps (both-right (isWeight p) (every isWeight ps) h) (set / 2) in
     rw (flagged (eqb p 4) digit, flagged (eqb p 2) digit, flagged (eqb p 1) digit) (omega (arith, this, rest))
 
 -- Mask by weight, then count ones: 8 has the item of four points, 5,911 those of two, 2,272 those of one.
@@ -135,6 +128,9 @@ module _ (fewer marked : ℕ) (within : bitAnd fewer marked ≡ fewer) where
   pub points-rise : (ps : List ℕ) → points ps fewer ≤ points ps marked
   points-rise ps = subst (λ (set : ℕ). points ps set ≤ points ps marked) within (points-within ps fewer marked)
 
+  not-counted : {younger : ℕ} → younger < 2 → points itemPointsUnderTen fewer ≡ 0 → ltb younger 2 && eqb (points itemPointsUnderTen fewer) 0 ≡ true
+  not-counted {younger} young none = rw (lt-ltb younger 2 young, eq-eqb (points itemPointsUnderTen fewer) 0 none)
+
   -- Nor do fewer points count with more marks, or when ten years have passed.
   pub counted-rise : {younger age : ℕ} → younger ≤ age → countedMarks fewer younger ≤ countedMarks marked age
   unfolding countedMarks
@@ -149,9 +145,7 @@ module _ (fewer marked : ℕ) (within : bitAnd fewer marked ≡ fewer) where
           let young : age < 2 = ltb-true age 2 (both-left _ (eqb (points itemPointsUnderTen marked) 0) e) in
           let none : points itemPointsUnderTen marked ≡ 0 = eqb-true _ 0 (both-right (ltb age 2) _ e) in
           let none-fewer : points itemPointsUnderTen fewer ≡ 0 = omega (arith, none, points-rise itemPointsUnderTen) in
-          let also : ltb younger 2 && eqb (points itemPointsUnderTen fewer) 0 ≡ true =
-          rw (lt-ltb younger 2 (omega (arith, young, older)), eq-eqb (points itemPointsUnderTen fewer) 0 none-fewer) in
-          absurd (subst T (sym also ∙ counts) tt)
+          absurd (subst T (sym (not-counted {younger = younger} (omega (arith, young, older)) none-fewer) ∙ counts) tt)
 
 pub counted-most : (marked age : ℕ) → countedMarks marked age ≤ 24
 unfolding countedMarks

@@ -14,9 +14,9 @@ use Rattle.method.proofs.Tables.{nth-is, nth-none, both-left, both-righ
 use Rattle.method.proofs.Branches.{cond-most, cond-least, cond-same}
 
 -- The last number of storeys begins at line 3.
-pub top-most : (storeys : ℕ) → topLine storeys ≤ 3
+pub top-line-most : (storeys : ℕ) → topLine storeys ≤ 3
 unfolding topLine
-top-most storeys = cond-most (eqb storeys 1) (λ e. lit≤ tt) (λ e. cond-most (eqb storeys 2) (λ d. lit≤ tt) (λ d. lit≤ tt))
+top-line-most storeys = cond-most (eqb storeys 1) (λ e. lit≤ tt) (λ e. cond-most (eqb storeys 2) (λ d. lit≤ tt) (λ d. lit≤ tt))
 
 -- What the constant is, by the line of the table that holds it.
 module _ (storeys storey weight : ℕ) where
@@ -54,7 +54,9 @@ module _ {storeys storey : ℕ} (some : 1 ≤ storey) (most : storey ≤ storeys
     unfolding rising
     constant-test =
         implied (leb 1 storey && leb storey storeys && leb 1 lighter && leb lighter weight)
-        (at-every 4 _ (at-every 4 _ (at-every 4 _ (at-every 4 _ all-rising storeys (omega arith)) storey (omega arith)) lighter (omega arith)) weight (omega arith))
+        (at-every 4 _
+        (at-every 4 _ (at-every 4 _ (at-every 4 _ all-rising storeys (omega arith)) storey (omega arith)) lighter (omega arith))
+        weight (omega arith))
         (rw (le-leb 1 storey some, le-leb storey storeys most, le-leb 1 lighter class, le-leb lighter weight heavier))
 
     pub constant-positive : 0 < constant storeys storey lighter

@@ -44,7 +44,8 @@ held-per-wall (share ∷ shares) each =
     omega arith
 
 -- 300 walls hold at most 60,000,000,000.
-pub held-most : (shares : List ℕ) → length shares ≤ 300 → ((k : ℕ) → k < length shares → getD shares k 0 ≤ mostShare) → heldStrength shares ≤ mostHeld
+pub held-most : (shares : List ℕ) → length shares ≤ 300 → ((k : ℕ) → k < length shares → getD shares k 0 ≤ mostShare)
+    → heldStrength shares ≤ mostHeld
 held-most shares few each =
     let all : heldStrength shares ≤ length shares * mostShare = held-per-wall shares each in
     omega arith

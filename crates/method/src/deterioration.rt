@@ -5,7 +5,7 @@ ghost use lib.Bits.{bitAnd};
 ghost use lib.Count.{ones};
 ghost use Rattle.method.specs.Deterioration.{itemPoints, itemPointsUnderTen, points, countedMarks, factorOf, deteriorationFactor};
 
-// The items of each weight (000's table 4.8), item 1 worth 1 and each next twice the one before.
+// The items of each weight (000's table 4.8): item 1 is worth 1, each next item twice the one before.
 const FOUR_POINTS: u32 = 8; // item 4
 
 const TWO_POINTS: u32 = 5911; // items 1, 2, 3, 5, 9, 10, 11, 13
@@ -18,11 +18,11 @@ pub struct Fraction {
     pub lower: u8,
 }
 
-// How many items of a weight are in a set.
-fn items(set: u32, weight: u32) -> u32
-    ensures { λ r. ⌜ r ≡ ones (bitAnd set weight) ⌝ }
+// How many items of a mask are in a set.
+fn items(set: u32, mask: u32) -> u32
+    ensures { λ r. ⌜ r ≡ ones (bitAnd set mask) ⌝ }
 {
-    u32::count_ones(set & weight)
+    u32::count_ones(set & mask)
 }
 
 // The points of a set as for houses under ten years, where items of one point aren't surveyed.

@@ -8,44 +8,44 @@ ghost use Rattle.method.specs.Held.{mostHeld};
 ghost use Rattle.method.specs.Required.{mostRequired};
 ghost use Rattle.method.specs.LayoutFactor.{reached, band, floorType, layoutFactor};
 
-// 000's explanatory table 4.11, in hundredths: a line for each band of one end, and from the left the
-// bands of the other, each for floor types I, II and III.
+// 000's explanatory table 4.11, in hundredths: the band of one end, then that of the other, each pair for
+// floor types I, II and III.
 const LAYOUT_FACTORS: [[[u8; 3]; 5]; 5] = [
     [
-        [100, 90, 80],
-        [70, 65, 60],
-        [65, 60, 55],
-        [60, 55, 50],
-        [55, 50, 45],
-    ], // A
+        [100, 90, 80], // AA
+        [70, 65, 60], // AB
+        [65, 60, 55], // AC
+        [60, 55, 50], // AD
+        [55, 50, 45], // AE
+    ],
     [
-        [70, 65, 60],
-        [100, 90, 80],
-        [100, 90, 80],
-        [75, 70, 60],
-        [70, 65, 55],
-    ], // B
+        [70, 65, 60], // BA
+        [100, 90, 80], // BB
+        [100, 90, 80], // BC
+        [75, 70, 60], // BD
+        [70, 65, 55], // BE
+    ],
     [
-        [65, 60, 55],
-        [100, 90, 80],
-        [100, 90, 80],
-        [100, 90, 80],
-        [100, 90, 80],
-    ], // C
+        [65, 60, 55], // CA
+        [100, 90, 80], // CB
+        [100, 90, 80], // CC
+        [100, 90, 80], // CD
+        [100, 90, 80], // CE
+    ],
     [
-        [60, 55, 50],
-        [75, 70, 60],
-        [100, 90, 80],
-        [100, 100, 100],
-        [100, 100, 100],
-    ], // D
+        [60, 55, 50], // DA
+        [75, 70, 60], // DB
+        [100, 90, 80], // DC
+        [100, 100, 100], // DD
+        [100, 100, 100], // DE
+    ],
     [
-        [55, 50, 45],
-        [70, 65, 55],
-        [100, 90, 80],
-        [100, 100, 100],
-        [100, 100, 100],
-    ], // E
+        [55, 50, 45], // EA
+        [70, 65, 55], // EB
+        [100, 90, 80], // EC
+        [100, 100, 100], // ED
+        [100, 100, 100], // EE
+    ],
 ];
 
 // 1 where an end's sufficiency is at least so many hundredths, else 0.

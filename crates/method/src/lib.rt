@@ -1,8 +1,9 @@
 // The manual's arithmetic on plain numbers, table by table and factor by factor.
 //
-// Uses no crate. Document 01, "Held strength" to "Score and verdict", a module a section and the
-// definitions in specs/ by the same names; 000's tables stand as const arrays in the module that
-// uses them. Every function open to callers takes any numbers and says by a definition what it
+// Uses no crate. Document 01, "Held strength" (joints, held), "Required strength" (required), "Layout
+// factor" (layout), "Deterioration factor" (deterioration) and "Score and verdict" (scores); the
+// definitions stand in specs/, a file a section. 000's tables are const arrays in the module that
+// uses them. Every function open to callers takes any numbers, and a definition says what it
 // answers. The laws for comparing two houses are in proofs/.
 mod deterioration;
 mod held;

@@ -3,7 +3,6 @@ use mathlib.Core.Path.{_∙_, sym}
 use borrow.Author.Tests.{lt-ltb, le-ltb, eq-eqb, ne-eqb}
 use borrow.Author.Needs.{needs}
 use Rattle.method.specs.Deterioration.{countedMarks}
-use Rattle.method.proofs.deterioration.points_under_ten.Reads as points-under-ten-reads
 use Rattle.method.proofs.deterioration.counted_marks.Statement.{statement}
 use Rattle.method.proofs.deterioration.counted_marks.Tie as tie
 

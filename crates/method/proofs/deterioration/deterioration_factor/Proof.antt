@@ -2,8 +2,6 @@
 use borrow.Author.Needs.{needs}
 use Rattle.method.specs.Deterioration.{deteriorationFactor}
 use Rattle.method.proofs.Points.{points-most, counted-most}
-use Rattle.method.proofs.deterioration.counted_marks.Reads as counted-marks-reads
-use Rattle.method.proofs.deterioration.factor_of.Reads as factor-of-reads
 use Rattle.method.proofs.deterioration.deterioration_factor.Statement.{statement}
 use Rattle.method.proofs.deterioration.deterioration_factor.Tie as tie
 

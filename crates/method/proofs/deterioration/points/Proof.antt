@@ -3,7 +3,6 @@ use Prim.Native.Nat.{_≤_}
 use native.Mathlib.Omega.{arith}
 use borrow.Author.Needs.{needs}
 use Rattle.method.proofs.Points.{points-masked, masked-most, points-under-ten-most}
-use Rattle.method.proofs.deterioration.points_under_ten.Reads as points-under-ten-reads
 use Rattle.method.proofs.deterioration.points.Statement.{statement}
 use Rattle.method.proofs.deterioration.points.Tie as tie
 
@@ -17,7 +16,7 @@ surveyed : (c : tie.After-points-under-ten) → c .points-under-ten .result ≤ 
 surveyed c = rw (c .points-under-ten .ensures) (points-under-ten-most _)
 
 one : (c : tie.After-items) → c .items .result ≤ 13
-one c = rw (c .items .ensures) (masked-most (c .before .before .args .set) 2272 tt)
+one c = rw (c .items .ensures) (masked-most (c .before .before .args .set) _ tt)
 
 add-result : tie.Need-add-result
 add-result c = omega (arith, surveyed (c .before), one c)

@@ -10,10 +10,10 @@ items-requires : tie.Need-items-requires
 items-requires c κs = search needs
 
 four : (c : tie.After-items) → c .items .result ≤ 13
-four c = rw (c .items .ensures) (masked-most (c .before .args .set) 8 tt)
+four c = rw (c .items .ensures) (masked-most (c .before .args .set) _ tt)
 
 two : (c : tie.After-items2) → c .items2 .result ≤ 13
-two c = rw (c .items2 .ensures) (masked-most (c .before .before .args .set) 5911 tt)
+two c = rw (c .items2 .ensures) (masked-most (c .before .before .args .set) _ tt)
 
 mul-result : tie.Need-mul-result
 mul-result c = omega (arith, four c)

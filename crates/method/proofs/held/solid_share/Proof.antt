@@ -4,7 +4,6 @@ use native.Mathlib.Omega.{arith}
 use borrow.Author.Needs.{needs}
 use Rattle.method.specs.Held.{solidShare}
 use Rattle.method.proofs.Products.{times-most, times-fits}
-use Rattle.method.proofs.joints.joint_factor.Reads as joint-factor-reads
 use Rattle.method.proofs.held.solid_share.Statement.{statement}
 use Rattle.method.proofs.held.solid_share.Tie as tie
 
@@ -18,10 +17,10 @@ cast-result : tie.Need-cast-result
 cast-result c = search needs
 
 mul-result : tie.Need-mul-result
-mul-result c = times-fits 100 255 (omega (arith, c .least .ensures)) (omega arith) tt
+mul-result c = times-fits 255 255 (omega (arith, c .least .ensures)) (omega arith) tt
 
 mul-result-2 : tie.Need-mul-result-2
-mul-result-2 c = times-fits (100 * 255) 4294967295 (times-most 100 255 (omega (arith, c .least .ensures)) (omega arith)) (omega arith) tt
+mul-result-2 c = times-fits (255 * 255) 4294967295 (times-most 255 255 (omega (arith, c .least .ensures)) (omega arith)) (omega arith) tt
 
 returns : tie.Need-returns
 unfolding solidShare

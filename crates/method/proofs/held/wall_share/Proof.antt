@@ -2,8 +2,6 @@
 use borrow.Author.Needs.{needs}
 use Rattle.method.specs.Held.{wallShare}
 use Rattle.method.proofs.Branches.{branches}
-use Rattle.method.proofs.held.opening_share.Reads as opening-share-reads
-use Rattle.method.proofs.held.solid_share.Reads as solid-share-reads
 use Rattle.method.proofs.held.wall_share.Statement.{statement}
 use Rattle.method.proofs.held.wall_share.Tie as tie
 

@@ -3,7 +3,6 @@ use Prim.Native.Nat.{_≤_}
 use native.Mathlib.Omega.{arith}
 use borrow.Author.Needs.{needs}
 use Rattle.method.proofs.Factors.{entry-no-joint, entry-top, entry-no-foundation, entry-other, entry-one, shared-some, shared-most}
-use Rattle.method.proofs.joints.shared_row.Reads as shared-row-reads
 use Rattle.method.proofs.joints.entry.Statement.{statement}
 use Rattle.method.proofs.joints.entry.Tie as tie
 

@@ -4,8 +4,6 @@ use native.Mathlib.Omega.{arith}
 use borrow.Author.Needs.{needs}
 use Rattle.method.specs.Held.{position}
 use Rattle.method.proofs.Factors.{joint-most}
-use Rattle.method.proofs.joints.along_row.Reads as along-row-reads
-use Rattle.method.proofs.joints.foundation_used.Reads as foundation-used-reads
 use Rattle.method.proofs.joints.joint_factor.Statement.{statement}
 use Rattle.method.proofs.joints.joint_factor.Tie as tie
 

@@ -48,7 +48,17 @@ add-result-3 c = omega (arith, one (c .before .before .before), two (c .before .
 
 returns : tie.Need-returns
 unfolding band
-returns c = rw (← c .before .before .before .before .before .least .ensures, ← c .before .before .before .before .least2 .ensures, ← c .before .before .before .reached .ensures, ← c .before .before .reached2 .ensures, ← c .before .reached3 .ensures, ← c .reached4 .ensures)
+returns c =
+    let at-first = c .before .before .before in
+    let at-least = at-first .before .before in
+    rw (
+      ← at-least .least .ensures,
+      ← at-first .before .least2 .ensures,
+      ← at-first .reached .ensures,
+      ← c .before .before .reached2 .ensures,
+      ← c .before .reached3 .ensures,
+      ← c .reached4 .ensures,
+    )
 
 pub band-spec : {M : Type 1} → statement M
 band-spec =

@@ -3,8 +3,7 @@ use Prim.Native.Nat.{_≤_}
 use native.Mathlib.Omega.{arith}
 use borrow.Author.Needs.{needs}
 use Rattle.method.proofs.Branches.{branches}
-use Rattle.method.proofs.Requirements.{constant-no-storey, constant-no-class, constant-is, top-most}
-use Rattle.method.proofs.required.top_line.Reads as top-line-reads
+use Rattle.method.proofs.Requirements.{constant-no-storey, constant-no-class, constant-is, top-line-most}
 use Rattle.method.proofs.required.constant.Statement.{statement}
 use Rattle.method.proofs.required.constant.Tie as tie
 
@@ -27,7 +26,7 @@ top-line-requires : tie.Need-top-line-requires
 top-line-requires c κs = search needs
 
 top : (c : tie.After-top-line) → c .top-line .result ≤ 3
-top c = rw (c .top-line .ensures) (top-most _)
+top c = rw (c .top-line .ensures) (top-line-most _)
 
 add-line : tie.Need-add-line
 add-line c = omega (arith, top c)

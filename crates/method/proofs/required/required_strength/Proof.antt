@@ -4,7 +4,6 @@ use native.Mathlib.Omega.{arith}
 use borrow.Author.Needs.{needs}
 use Rattle.method.specs.Required.{requiredStrength}
 use Rattle.method.proofs.Products.{times-most, times-fits}
-use Rattle.method.proofs.required.ground_factor.Reads as ground-factor-reads
 use Rattle.method.proofs.required.required_strength.Statement.{statement}
 use Rattle.method.proofs.required.required_strength.Tie as tie
 

@@ -30,7 +30,10 @@ mul-divisor c = times-fits mostRequired 255 (needs-most (c .before)) (omega arit
 
 returns : tie.Need-returns
 unfolding score
-returns c = rw (← c .before .before .before .least .ensures, ← c .before .before .least2 .ensures, c .if1 .taken, div-zero (1000 * c .before .before .before .least .result * c .before .before .before .before .args .layout * c .before .before .before .before .args .deterioration .upper))
+returns c =
+    let at-least = c .before .before .before in
+    let args = at-least .before .args in
+    rw (← at-least .least .ensures, ← c .before .before .least2 .ensures, c .if1 .taken, div-zero (1000 * at-least .least .result * args .layout * args .deterioration .upper))
 
 mul-dividend : tie.Need-mul-dividend
 mul-dividend c = search needs
@@ -57,7 +60,9 @@ cast-result c = search needs
 
 returns-2 : tie.Need-returns-2
 unfolding score
-returns-2 c = rw (← c .before .before .before .before .before .least .ensures, ← c .before .before .before .before .least2 .ensures) (c .least3 .ensures)
+returns-2 c =
+    let at-needs = c .before .before .before .before in
+    rw (← at-needs .before .least .ensures, ← at-needs .least2 .ensures) (c .least3 .ensures)
 
 pub score-spec : {M : Type 1} → statement M
 score-spec =

@@ -1,0 +1,93 @@
+-- The score never rises, and the verdict's number never falls, as strength falls, more is required, or layout or deterioration get worse.
+-- Assumes nothing.
+use mathlib.Core.Path.{_≡_}
+use mathlib.Core.Bool.{false}
+use Prim.Native.Nat.{ℕ, _*_, _/_, _<_, _≤_, max}
+use native.Mathlib.Nat.{le-refl, le-trans, le-of-eq, mul-le-mul, mul-le-mul-left, mul-le-mul-right, mul-pos, mul-assoc, mul-comm, mul-left-comm, le-of-mul-le-mul-right, le-div-iff-mul-le, div-mul-le-self, le-min, min-le-left, min-le-right, lt-of-lt-of-le}
+use native.Mathlib.Omega.{arith}
+use lib.Dec.{leb, lit≤}
+use borrow.Author.Tests.{leb-false, lt-leb}
+use Rattle.method.specs.declared.deterioration.Fraction.{Fraction}
+use Rattle.method.specs.LayoutFactor.{band, layoutFactor}
+use Rattle.method.specs.Score.{score, scoreBeforeLayout, verdict}
+use Rattle.method.proofs.Branches.{cond-most, cond-least}
+use Rattle.method.proofs.Bands.{band-falls, band-most, layout-falls}
+use Rattle.method.proofs.Fractions.{_at-most_}
+
+-- One quotient is at most another, both rounded down, where it is so with both sides multiplied out.
+pub quotient-le : (a c : ℕ) {b d : ℕ} → 0 < b → 0 < d → a * d ≤ c * b → a / b ≤ c / d
+quotient-le a c {b} {d} hb hd crossed =
+    let regrouped : a / b * d * b ≡ a / b * b * d = simp (mul-assoc, mul-comm, mul-left-comm) in
+    let below : a / b * b * d ≤ a * d = mul-le-mul-right d (div-mul-le-self a b) in
+    le-div-iff-mul-le hd .1 (le-of-mul-le-mul-right (le-trans (le-of-eq regrouped) (le-trans below crossed)) hb)
+
+regroup : (a b c d : ℕ) → a * b * (c * d) ≡ a * c * (b * d)
+regroup a b c d = simp (mul-assoc, mul-comm, mul-left-comm)
+
+module _
+    {weaker held required more worse layout : ℕ} (f g : Fraction)
+    (less : weaker ≤ held) (grows : required ≤ more) (lower : worse ≤ layout) (falls : g at-most f)
+  where
+    crossed : 1000 * weaker * worse * g .upper * (required * f .lower) ≤ 1000 * held * layout * f .upper * (more * g .lower)
+    crossed =
+        rw (regroup (1000 * weaker * worse) (g .upper) required (f .lower), regroup (1000 * held * layout) (f .upper) more (g .lower))
+        (mul-le-mul (mul-le-mul (mul-le-mul (mul-le-mul-left 1000 less) lower) grows) falls)
+
+    -- The full score, rounding down included.
+    pub score-falls : 0 < required → 0 < f .lower → 0 < g .lower → score weaker more worse g ≤ score held required layout f
+    unfolding score
+    score-falls needs hf hg =
+        let before = 1000 * weaker * worse * g .upper in
+        let after = 1000 * held * layout * f .upper in
+        le-min
+        (le-trans (min-le-left (before / (more * g .lower)) 999)
+        (quotient-le before after (mul-pos (lt-of-lt-of-le needs grows) hg) (mul-pos needs hf) crossed))
+        (min-le-right (before / (more * g .lower)) 999)
+
+-- The score before the layout factor.
+pub score-before-falls : {weaker held required more : ℕ} (f g : Fraction) → weaker ≤ held → required ≤ more → g at-most f
+    → 0 < required → 0 < f .lower → 0 < g .lower → scoreBeforeLayout weaker more g ≤ scoreBeforeLayout held required f
+score-before-falls f g less grows falls needs hf hg = score-falls f g less grows (le-refl 100) falls needs hf hg
+
+-- The full score of a storey and direction whose two ends hold so much, as more is required of it and of them, where the higher band is kept.
+pub full-score-falls : (held one other : ℕ) {required more oneRequired oneMore otherRequired otherMore floor : ℕ} (f g : Fraction)
+    → required ≤ more → oneRequired ≤ oneMore → otherRequired ≤ otherMore → floor ≤ 3 → g at-most f
+    → max (band one oneMore) (band other otherMore) ≡ max (band one oneRequired) (band other otherRequired)
+    → 0 < required → 0 < f .lower → 0 < g .lower
+    → score held more (layoutFactor (band one oneMore) (band other otherMore) floor) g
+    ≤ score held required (layoutFactor (band one oneRequired) (band other otherRequired) floor) f
+full-score-falls held one other {oneRequired = oneRequired} {otherRequired = otherRequired} f g grows one-grows other-grows floor falls kept needs hf hg =
+    score-falls f g (le-refl held) grows
+    (layout-falls (band-most one oneRequired) (band-most other otherRequired) floor
+    (band-falls (le-refl one) one-grows) (band-falls (le-refl other) other-grows) kept)
+    falls needs hf hg
+
+pub score-most : (held required layout : ℕ) (f : Fraction) → score held required layout f ≤ 999
+unfolding score
+score-most held required layout f = min-le-right (1000 * held * layout * f .upper / (required * f .lower)) 999
+
+-- The verdict's number is 1 to 4, and never falls when the least score falls.
+pub verdict-least : (least : ℕ) → 1 ≤ verdict least
+unfolding verdict
+verdict-least least =
+    cond-least (leb 150 least) (λ e. lit≤ tt)
+    (λ e. cond-least (leb 100 least) (λ d. lit≤ tt) (λ d. cond-least (leb 70 least) (λ f. lit≤ tt) (λ f. lit≤ tt)))
+
+pub verdict-most : (least : ℕ) → verdict least ≤ 4
+unfolding verdict
+verdict-most least =
+    cond-most (leb 150 least) (λ e. lit≤ tt)
+    (λ e. cond-most (leb 100 least) (λ d. lit≤ tt) (λ d. cond-most (leb 70 least) (λ f. lit≤ tt) (λ f. lit≤ tt)))
+
+-- A limit that a score does not reach, a lower one does not.
+under : {lower least : ℕ} → lower ≤ least → (limit : ℕ) → leb limit least ≡ false → leb limit lower ≡ false
+under {lower} {least} falls limit e = lt-leb limit lower (omega (arith, leb-false limit least e, falls))
+
+pub verdict-rises : {lower least : ℕ} → lower ≤ least → verdict least ≤ verdict lower
+unfolding verdict
+verdict-rises {lower} {least} falls =
+    cond-most (leb 150 least) (λ e. verdict-least lower)
+    (λ a. rw (under falls 150 a)
+    (cond-most (leb 100 least) (λ e. cond-least (leb 100 lower) (λ d. lit≤ tt) (λ d. cond-least (leb 70 lower) (λ f. lit≤ tt) (λ f. lit≤ tt)))
+    (λ b. rw (under falls 100 b)
+    (cond-most (leb 70 least) (λ e. cond-least (leb 70 lower) (λ d. lit≤ tt) (λ d. lit≤ tt)) (λ c. rw (under falls 70 c) (le-refl 4))))))
