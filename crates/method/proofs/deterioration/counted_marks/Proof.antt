@@ -18,7 +18,10 @@ returns c = rw (lt-ltb _ 2 (c .before .before .if1 .taken), eq-eqb _ 0 (sym (c .
 
 returns-2 : tie.Need-returns-2
 unfolding countedMarks
-returns-2 c = rw (lt-ltb _ 2 (c .before .before .if1 .taken), ne-eqb _ 0 (λ none. c .if2 .left (c .before .points-under-ten .ensures ∙ none))) (c .before .before .before .points .ensures)
+returns-2 c =
+    let at-if1 = c .before .before in
+    rw (lt-ltb _ 2 (at-if1 .if1 .taken), ne-eqb _ 0 (λ none. c .if2 .left (c .before .points-under-ten .ensures ∙ none)))
+    (at-if1 .before .points .ensures)
 
 returns-3 : tie.Need-returns-3
 unfolding countedMarks

@@ -88,7 +88,10 @@ index-3-result-2 : tie.Need-index-3-result-2
 index-3-result-2 c = search needs
 
 returns-7 : tie.Need-returns-7
-returns-7 c = entry-one _ _ _ _ (c .before .before .before .before .before .if3 .left) (omega arith) (c .before .before .if6 .left) (c .before .shared-row .ensures) (line-some (c .before))
+returns-7 c =
+    let at-row = c .before in
+    let at-if6 = at-row .before in
+    entry-one _ _ _ _ (at-if6 .before .before .before .if3 .left) (omega arith) (at-if6 .if6 .left) (at-row .shared-row .ensures) (line-some at-row)
 
 pub entry-spec : {M : Type 1} → statement M
 entry-spec =
