@@ -39,13 +39,13 @@ band-most held required =
     (reached-most held required 133)
 
 -- A floor type stays 1 to 3.
-pub floor-least : {type : ℕ} (void : ℕ) → 1 ≤ type → 1 ≤ floorType type void
+pub floor-least : {floor : ℕ} (void : ℕ) → 1 ≤ floor → 1 ≤ floorType floor void
 unfolding floorType
-floor-least {type} void some = cond-least (eqb void 1) (λ e. omega arith) (λ e. some)
+floor-least {floor} void some = cond-least (eqb void 1) (λ e. omega arith) (λ e. some)
 
-pub floor-most : {type : ℕ} (void : ℕ) → type ≤ 3 → floorType type void ≤ 3
+pub floor-most : {floor : ℕ} (void : ℕ) → floor ≤ 3 → floorType floor void ≤ 3
 unfolding floorType
-floor-most {type} void most = cond-most (eqb void 1) (λ e. min-le-right (type + 1) 3) (λ e. most)
+floor-most {floor} void most = cond-most (eqb void 1) (λ e. min-le-right (floor + 1) 3) (λ e. most)
 
 -- What the layout factor is, by the table.
 module _ (one other floor : ℕ) where

@@ -37,12 +37,12 @@ module _
     pub score-falls : 0 < required → 0 < f .lower → 0 < g .lower → score weaker more worse g ≤ score held required layout f
     unfolding score
     score-falls needs hf hg =
-        let before = 1000 * weaker * worse * g .upper in
-        let after = 1000 * held * layout * f .upper in
+        let lesser = 1000 * weaker * worse * g .upper in
+        let greater = 1000 * held * layout * f .upper in
         le-min
-        (le-trans (min-le-left (before / (more * g .lower)) 999)
-        (quotient-le before after (mul-pos (lt-of-lt-of-le needs grows) hg) (mul-pos needs hf) crossed))
-        (min-le-right (before / (more * g .lower)) 999)
+        (le-trans (min-le-left (lesser / (more * g .lower)) 999)
+        (quotient-le lesser greater (mul-pos (lt-of-lt-of-le needs grows) hg) (mul-pos needs hf) crossed))
+        (min-le-right (lesser / (more * g .lower)) 999)
 
 -- The score before the layout factor.
 pub score-before-falls : {weaker held required more : ℕ} (f g : Fraction) → weaker ≤ held → required ≤ more → g at-most f

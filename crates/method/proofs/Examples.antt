@@ -3,23 +3,19 @@ use mathlib.Core.Path.{_≡_, refl}
 use mathlib.Core.List.{List, [], _∷_}
 use Prim.Native.Nat.{ℕ}
 use Rattle.method.specs.Printed.{nth}
-use Rattle.method.specs.Held.{position, foundationUsed, sharedRow, entry, straight, alongRow, jointFactor, solidShare, openingShare, wallShare}
+use Rattle.method.specs.Held.{position, foundationUsed, sharedRow, entry, interpolated, rowFactor, jointFactor, solidShare, openingShare, wallShare}
 use Rattle.method.specs.LayoutFactor.{reached, band, layoutFactor}
 use Rattle.method.specs.Deterioration.{points, countedMarks, factorOf, deteriorationFactor}
 use Rattle.method.specs.Score.{verdict}
 
--- The joint factor of a storey.
-abbrev factor : ℕ → ℕ → ℕ → ℕ → ℕ → ℕ
-factor storeys storey foundation joint strength = jointFactor (position storeys storey) (foundationUsed storeys storey foundation) joint strength
-
 -- P2 to P9 and P11, and 000's own worked joint factor (its section 4.2).
 abbrev pub worked : List ℕ
 worked =
-    factor 2 2 1 4 31  -- P2: upper storey of two, joint 4, strength 31: its factor
+    jointFactor 2 2 1 4 31  -- P2: upper storey of two, joint 4, strength 31: its factor
     ∷ wallShare 2 2 1 1 4 31 4550  -- and of 4,550 mm
-    ∷ factor 2 1 2 4 22  -- P3: ground storey of two, foundation 2, joint 4, strength 22
+    ∷ jointFactor 2 1 2 4 22  -- P3: ground storey of two, foundation 2, joint 4, strength 22
     ∷ wallShare 2 1 2 1 4 22 1820
-    ∷ factor 2 1 2 4 31  -- P4: strength 31
+    ∷ jointFactor 2 1 2 4 31  -- P4: strength 31
     ∷ wallShare 2 1 2 1 4 31 3640
     ∷ wallShare 1 1 1 1 1 101 1000  -- P5: strength 101 counts as 100
     ∷ wallShare 1 1 1 1 1 100 1000
@@ -40,7 +36,7 @@ worked =
     ∷ verdict 100
     ∷ verdict 149
     ∷ verdict 150
-    ∷ factor 2 1 2 2 40  -- 000: strength 4.0, joint II, foundation II, ground storey of two
+    ∷ jointFactor 2 1 2 2 40  -- 000: strength 4.0, joint II, foundation II, ground storey of two
     ∷ []
 
 abbrev pub expected : List ℕ
@@ -74,7 +70,7 @@ expected =
     ∷ []
 
 pub worked-out : worked ≡ expected
-unfolding position foundationUsed sharedRow entry straight alongRow jointFactor solidShare openingShare wallShare nth reached band points countedMarks factorOf deteriorationFactor verdict
+unfolding position foundationUsed sharedRow entry interpolated rowFactor jointFactor solidShare openingShare wallShare nth reached band points countedMarks factorOf deteriorationFactor verdict
 worked-out = refl
 
 -- The factors of a pair of bands, A as 0 to E as 4, for floor types 1, 2 and 3.

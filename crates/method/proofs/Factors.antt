@@ -9,7 +9,7 @@ use lib.ListN.{length, getD}
 use lib.Dec.{eqb, ltb, lit≤}
 use borrow.Author.Tests.{leb-true, ltb-true, ltb-false, eqb-false, eq-eqb, ne-eqb}
 use Rattle.method.specs.Printed.{nth}
-use Rattle.method.specs.Held.{topStorey, otherStorey, oneStorey, sharedRow, entry, straight, alongRow, jointFactor}
+use Rattle.method.specs.Held.{topStorey, otherStorey, oneStorey, position, foundationUsed, sharedRow, entry, interpolated, rowFactor, jointFactor}
 use Rattle.method.proofs.Branches.{cond-most, cond-least, cond-same}
 use Rattle.method.proofs.Tables.{nth-is, nth-none, every, getD-every, nth-every, small, short}
 
@@ -85,30 +85,34 @@ module _ (position foundation joint column : ℕ) where
       entry-one one {line} shared some =
           rw (ne-eqb position 1 below, ne-eqb position 2 one, ← shared, nth-is oneStorey line [] some) (sym (nth-is _ foundation 0 known))
 
--- The straight line stays between its ends.
-pub straight-most : (from to left right strength : ℕ) → left ≤ 100 → right ≤ 100 → from ≤ strength → strength < to
-    → straight from to left right strength ≤ 100
-unfolding straight
-straight-most from to left right strength l r above below =
+-- Between entries of at most 100 the factor is at most 100.
+pub interpolated-most : (from to left right strength : ℕ) → left ≤ 100 → right ≤ 100 → from ≤ strength → strength < to
+    → interpolated from to left right strength ≤ 100
+unfolding interpolated
+interpolated-most from to left right strength l r above below =
     let one : left * (to - strength) ≤ 100 * (to - strength) = mul-le-mul-right (to - strength) l in
     let other : right * (strength - from) ≤ 100 * (strength - from) = mul-le-mul-right (strength - from) r in
     le-of-suc-le-suc (div-lt-iff-lt-mul {k = 2 * (to - from)} (omega arith) .1 (omega arith))
 
--- Along a line whose entries are at most 100.
+-- The factor by a row whose entries are at most 100.
 module _ (row : ℕ → ℕ) (most : (column : ℕ) → row column ≤ 100) (strength : ℕ) where
   stretch-most : (from to left right : ℕ) → ltb strength from ≡ false → ltb strength to ≡ true
-      → straight from to (row left) (row right) strength ≤ 100
+      → interpolated from to (row left) (row right) strength ≤ 100
   stretch-most from to left right above below =
-      straight-most from to (row left) (row right) strength (most left) (most right) (ltb-false strength from above) (ltb-true strength to below)
+      interpolated-most from to (row left) (row right) strength (most left) (most right) (ltb-false strength from above) (ltb-true strength to below)
 
-  along-most : alongRow row strength ≤ 100
-  unfolding alongRow
-  along-most =
+  row-most : rowFactor row strength ≤ 100
+  unfolding rowFactor
+  row-most =
       cond-most (ltb strength 20) (λ e. most 0)
       (λ above-20. cond-most (ltb strength 30) (stretch-most 20 30 0 1 above-20)
       (λ above-30. cond-most (ltb strength 50) (stretch-most 30 50 1 2 above-30)
       (λ above-50. cond-most (ltb strength 70) (stretch-most 50 70 2 3 above-50) (λ above-70. most 3))))
 
-pub joint-most : (position foundation joint strength : ℕ) → jointFactor position foundation joint strength ≤ 100
+-- Once over every position, foundation and joint, and so for every storey.
+pub row-factor-most : (position foundation joint strength : ℕ) → rowFactor (entry position foundation joint) strength ≤ 100
+row-factor-most position foundation joint strength = row-most (entry position foundation joint) (entry-most position foundation joint) strength
+
+pub joint-most : (storeys storey foundation joint strength : ℕ) → jointFactor storeys storey foundation joint strength ≤ 100
 unfolding jointFactor
-joint-most position foundation joint strength = along-most (entry position foundation joint) (entry-most position foundation joint) strength
+joint-most storeys storey foundation joint strength = row-factor-most (position storeys storey) (foundationUsed storeys storey foundation) joint strength

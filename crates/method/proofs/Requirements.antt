@@ -13,7 +13,7 @@ use Rattle.method.specs.Required.{constants, topLine, constant, groundFa
 use Rattle.method.proofs.Tables.{nth-is, nth-none, both-left, both-right, implied, every, getD-every, nth-every, small, short, everyBelow, at-every}
 use Rattle.method.proofs.Branches.{cond-most, cond-least, cond-same}
 
--- The last number of storeys begins at line 3.
+-- Three storeys begin at line 3, and no number of storeys later.
 pub top-line-most : (storeys : ℕ) → topLine storeys ≤ 3
 unfolding topLine
 top-line-most storeys = cond-most (eqb storeys 1) (λ e. lit≤ tt) (λ e. cond-most (eqb storeys 2) (λ d. lit≤ tt) (λ d. lit≤ tt))

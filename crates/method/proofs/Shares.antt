@@ -5,7 +5,7 @@ use native.Mathlib.Nat.{min-le-right, mul-le-mul, mul-le-mul-right, zero-lt-suc}
 use native.Mathlib.Omega.{arith}
 use lib.ListN.{length, getD}
 use lib.Dec.{eqb, lit≤}
-use Rattle.method.specs.Held.{position, foundationUsed, solidShare, openingShare, wallShare, heldStrength, mostHeld}
+use Rattle.method.specs.Held.{solidShare, openingShare, wallShare, heldStrength, mostHeld}
 use Rattle.method.proofs.Branches.{cond-most}
 use Rattle.method.proofs.Factors.{joint-most}
 
@@ -18,21 +18,20 @@ module _ (storeys storey foundation joint strength length : ℕ) (short : length
   unfolding solidShare
   solid-most =
       mul-le-mul
-      (mul-le-mul (min-le-right strength 100) (joint-most (position storeys storey) (foundationUsed storeys storey foundation) joint strength))
-      short
+      (mul-le-mul (min-le-right strength 100) (joint-most storeys storey foundation joint strength)) short
 
-  opening-most : (kind : ℕ) → kind ≤ 6 → openingShare kind length ≤ mostShare
+  opening-most : (opening : ℕ) → opening ≤ 6 → openingShare opening length ≤ mostShare
   unfolding openingShare
-  opening-most kind weak =
-      let most : kind * 100 * min length 3000 ≤ 6 * 100 * 3000 = mul-le-mul (mul-le-mul-right 100 weak) (min-le-right length 3000) in
+  opening-most opening weak =
+      let most : opening * 100 * min length 3000 ≤ 6 * 100 * 3000 = mul-le-mul (mul-le-mul-right 100 weak) (min-le-right length 3000) in
       omega arith
 
-  pub share-most : (type : ℕ) → wallShare storeys storey foundation type joint strength length ≤ mostShare
+  pub share-most : (walltype : ℕ) → wallShare storeys storey foundation walltype joint strength length ≤ mostShare
   unfolding wallShare
-  share-most type =
-      cond-most (eqb type 1) (λ e. solid-most)
-      (λ e. cond-most (eqb type 2) (λ d. opening-most 6 (lit≤ tt))
-      (λ d. cond-most (eqb type 3) (λ f. opening-most 3 (lit≤ tt)) (λ f. lit≤ tt)))
+  share-most walltype =
+      cond-most (eqb walltype 1) (λ e. solid-most)
+      (λ e. cond-most (eqb walltype 2) (λ d. opening-most 6 (lit≤ tt))
+      (λ d. cond-most (eqb walltype 3) (λ f. opening-most 3 (lit≤ tt)) (λ f. lit≤ tt)))
 
 -- The sum over walls that each count at most so much.
 pub held-per-wall : (shares : List ℕ) → ((k : ℕ) → k < length shares → getD shares k 0 ≤ mostShare) → heldStrength shares ≤ length shares * mostShare

@@ -33,21 +33,21 @@ points [] set = 0
 points (p ∷ ps) set = p * (set % 2) + points ps (set / 2)
 
 -- The points of the marks that count. "Under ten years items 6, 7, 8, 12 aren't surveyed, unless some other item is marked; then the house is
--- treated as over ten." Age 1 is under ten years, 2 ten or more.
+-- treated as over ten." Age 1 is under ten years, 2 ten or more; other numbers go by the same test.
 unfoldable pub countedMarks : ℕ → ℕ → ℕ
 countedMarks marked age = cond (ltb age 2 && eqb (points itemPointsUnderTen marked) 0) 0 (points itemPoints marked)
 
 -- A factor as a fraction, which document 02 calls its upper and lower number.
-abbrev pub over : ℕ → ℕ → Fraction
-over upper lower = record { upper = upper; lower = lower }
+abbrev pub fraction : ℕ → ℕ → Fraction
+fraction upper lower = record { upper = upper; lower = lower }
 
 -- "With no counted mark the factor is 1. Else it is (present − marked) / present in points, never below 7/10." It is below where
 -- 10 × (present − marked) < 7 × present.
 unfoldable pub factorOf : ℕ → ℕ → Fraction
 factorOf present marked =
-    cond (eqb marked 0) (over 1 1)
-    (cond (ltb (10 * present) (7 * present + 10 * marked)) (over 7 10)
-    (over (present - marked) present))
+    cond (eqb marked 0) (fraction 1 1)
+    (cond (ltb (10 * present) (7 * present + 10 * marked)) (fraction 7 10)
+    (fraction (present - marked) present))
 
 -- The deterioration factor of a present set, a marked set and an age.
 unfoldable pub deteriorationFactor : ℕ → ℕ → ℕ → Fraction

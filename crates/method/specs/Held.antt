@@ -9,7 +9,7 @@ use Rattle.method.specs.Printed.{nth}
 -- "000's table of reductions for column joints outside snow areas (its 'reference 2')", in hundredths, as it is printed: a line a joint; from
 -- the left the strengths 2.0, 3.0, 5.0 and 7.0 kN/m, in tables 2 and 3 each for foundations I, II and III.
 
--- Reference 2, table 1: the top storey of two or three.
+-- Table 1 (its table 4.3 has the same, for three storeys too): the top storey of two or three.
 abbrev pub topStorey : List (List ℕ)
 topStorey =
     (100 ∷ 100 ∷ 100 ∷ 100 ∷ [])  -- joint I
@@ -18,7 +18,7 @@ topStorey =
     ∷ (70 ∷ 35 ∷ 25 ∷ 20 ∷ [])  -- joint IV
     ∷ []
 
--- Reference 2, table 2: the other storeys of two or three.
+-- Table 2: the other storeys of two or three.
 abbrev pub otherStorey : List (List (List ℕ))
 otherStorey =
     ((100 ∷ 100 ∷ 100 ∷ []) ∷ (100 ∷ 90 ∷ 80 ∷ []) ∷ (100 ∷ 85 ∷ 70 ∷ []) ∷ (100 ∷ 80 ∷ 60 ∷ []) ∷ [])  -- joint I
@@ -27,7 +27,7 @@ otherStorey =
     ∷ ((100 ∷ 100 ∷ 100 ∷ []) ∷ (80 ∷ 80 ∷ 80 ∷ []) ∷ (70 ∷ 70 ∷ 70 ∷ []) ∷ (60 ∷ 60 ∷ 60 ∷ []) ∷ [])  -- joint IV
     ∷ []
 
--- Reference 2, table 3: one storey.
+-- Table 3: one storey.
 abbrev pub oneStorey : List (List (List ℕ))
 oneStorey =
     ((100 ∷ 85 ∷ 70 ∷ []) ∷ (100 ∷ 85 ∷ 70 ∷ []) ∷ (100 ∷ 80 ∷ 70 ∷ []) ∷ (100 ∷ 80 ∷ 70 ∷ []) ∷ [])  -- joint I
@@ -35,7 +35,8 @@ oneStorey =
     ∷ ((70 ∷ 70 ∷ 70 ∷ []) ∷ (60 ∷ 60 ∷ 60 ∷ []) ∷ (50 ∷ 50 ∷ 50 ∷ []) ∷ (30 ∷ 30 ∷ 30 ∷ []) ∷ [])  -- joints III and IV
     ∷ []
 
--- Which of the three tables a storey takes: 1 the top storey of two or three, 2 another storey of two or three, 3 one storey.
+-- Which of the three tables a storey takes: 1 the top storey of two or three, 2 another storey of two or three, 3 one storey. Numbers that no
+-- house has go by the same tests.
 unfoldable pub position : ℕ → ℕ → ℕ
 position storeys storey = cond (eqb storeys 1) 3 (cond (eqb storey storeys) 1 2)
 
@@ -56,27 +57,28 @@ entry position foundation joint column =
     (nth (getD (nth oneStorey (sharedRow joint) []) column []) foundation 0))
 
 -- "Between, go straight from entry to entry and round to the nearest hundredth, half up": from one strength and its entry to the next.
-unfoldable pub straight : ℕ → ℕ → ℕ → ℕ → ℕ → ℕ
-straight from to left right strength =
+unfoldable pub interpolated : ℕ → ℕ → ℕ → ℕ → ℕ → ℕ
+interpolated from to left right strength =
     (2 * (left * (to - strength) + right * (strength - from)) + (to - from)) / (2 * (to - from))
 
--- "Below 2.0 the 2.0 entry holds, above 7.0 the 7.0 entry." Strength is in 0.1 kN/m.
-unfoldable pub alongRow : (ℕ → ℕ) → ℕ → ℕ
-alongRow row strength =
+-- The factor of a strength in 0.1 kN/m by the four entries of a row. "Below 2.0 the 2.0 entry holds, above 7.0 the 7.0 entry."
+unfoldable pub rowFactor : (ℕ → ℕ) → ℕ → ℕ
+rowFactor row strength =
     cond (ltb strength 20) (row 0)
-    (cond (ltb strength 30) (straight 20 30 (row 0) (row 1) strength)
-    (cond (ltb strength 50) (straight 30 50 (row 1) (row 2) strength)
-    (cond (ltb strength 70) (straight 50 70 (row 2) (row 3) strength)
+    (cond (ltb strength 30) (interpolated 20 30 (row 0) (row 1) strength)
+    (cond (ltb strength 50) (interpolated 30 50 (row 1) (row 2) strength)
+    (cond (ltb strength 70) (interpolated 50 70 (row 2) (row 3) strength)
     (row 3))))
 
 -- Document 01's joint factor (000's Kj), in hundredths.
-unfoldable pub jointFactor : ℕ → ℕ → ℕ → ℕ → ℕ
-jointFactor position foundation joint strength = alongRow (entry position foundation joint) strength
+unfoldable pub jointFactor : ℕ → ℕ → ℕ → ℕ → ℕ → ℕ
+jointFactor storeys storey foundation joint strength =
+    rowFactor (entry (position storeys storey) (foundationUsed storeys storey foundation) joint) strength
 
 -- "A solid wall counts strength (at most 100) × joint factor in hundredths × length."
 unfoldable pub solidShare : ℕ → ℕ → ℕ → ℕ → ℕ → ℕ → ℕ
 solidShare storeys storey foundation joint strength length =
-    min strength 100 * jointFactor (position storeys storey) (foundationUsed storeys storey foundation) joint strength * length
+    min strength 100 * jointFactor storeys storey foundation joint strength * length
 
 -- "A window counts 6 and a full-height opening 3, × 100 × length, with length at most 3,000."
 unfoldable pub openingShare : ℕ → ℕ → ℕ
@@ -84,16 +86,16 @@ openingShare strength length = strength * 100 * min length 3000
 
 -- What a wall of a type (1 solid, 2 window opening, 3 full-height opening) counts; 0 for any other type.
 unfoldable pub wallShare : ℕ → ℕ → ℕ → ℕ → ℕ → ℕ → ℕ → ℕ
-wallShare storeys storey foundation type joint strength length =
-    cond (eqb type 1) (solidShare storeys storey foundation joint strength length)
-    (cond (eqb type 2) (openingShare 6 length)
-    (cond (eqb type 3) (openingShare 3 length) 0))
+wallShare storeys storey foundation walltype joint strength length =
+    cond (eqb walltype 1) (solidShare storeys storey foundation joint strength length)
+    (cond (eqb walltype 2) (openingShare 6 length)
+    (cond (eqb walltype 3) (openingShare 3 length) 0))
 
 -- "Held strength of a storey and direction is the sum over its walls", here of what each of them counts.
 unfoldable pub heldStrength : List ℕ → ℕ
 heldStrength [] = 0
 heldStrength (share ∷ shares) = share + heldStrength shares
 
--- The most that a house can hold: 300 walls of strength 100, factor 100 and length 20,000.
+-- 60,000 kN, which no storey's walls exceed. Where bands and scores are computed, a held strength above this counts as this.
 abbrev pub mostHeld : ℕ
-mostHeld = 300 * (100 * 100 * 20000)
+mostHeld = 60000000000

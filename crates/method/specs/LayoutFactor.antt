@@ -7,7 +7,7 @@ use lib.Dec.{eqb, leb}
 use Rattle.method.specs.Printed.{nth}
 
 -- "Sufficiency of an end is its solid walls' held strength over its required strength", here 1 where it is at least so many hundredths and 0
--- where it is under them, "compared exactly". A held strength is 1,000 of the required strength's units.
+-- where it is under them, "compared exactly". A unit of held strength is 1,000 units of required strength.
 unfoldable pub reached : ℕ → ℕ → ℕ → ℕ
 reached held required limit = cond (leb (limit * required) (100000 * held)) 1 0
 
@@ -15,9 +15,9 @@ reached held required limit = cond (leb (limit * required) (100000 * held)) 1 0
 unfoldable pub band : ℕ → ℕ → ℕ
 band held required = reached held required 33 + reached held required 66 + reached held required 100 + reached held required 133
 
--- "A void makes floor type 1 into 2 and 2 into 3." 3 stays 3.
+-- "A void makes floor type 1 into 2 and 2 into 3." 3 stays 3, and with a void no number is above 3. Void 1 is one of 4 m or more.
 unfoldable pub floorType : ℕ → ℕ → ℕ
-floorType type void = cond (eqb void 1) (min (type + 1) 3) type
+floorType floor void = cond (eqb void 1) (min (floor + 1) 3) floor
 
 -- "The factor in hundredths is the table below, by floor type 1/2/3 (000, explanatory table 4.11)": as 000 prints it, a line for each band of
 -- one end, and from the left the bands of the other, each for floor types I, II and III.

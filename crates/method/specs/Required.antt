@@ -30,20 +30,20 @@ constant storeys storey weight =
     cond (leb 1 storey && leb storey storeys && leb storeys 3)
     (nth (getD constants (topLine storeys + (storeys - storey)) []) weight 0) 0
 
--- "ground (10 ordinary, 15 very soft)". Ground 1 is ordinary, 2 very soft.
+-- "ground (10 ordinary, 15 very soft)". Ground 1 is ordinary, 2 very soft; other numbers go by the same test.
 unfoldable pub groundFactor : ℕ → ℕ
 groundFactor ground = cond (ltb ground 2) 10 15
 
 -- "The narrow factor is 113 for the ground storey of two or three storeys whose short side is under 4,000 mm, else 100." The storeys are
--- the house's.
+-- the house's, which has at most three.
 unfoldable pub narrowFactor : ℕ → ℕ → ℕ → ℕ
-narrowFactor storeys storey shortSide = cond (leb 2 storeys && eqb storey 1 && ltb shortSide 4000) 113 100
+narrowFactor storeys storey side = cond (leb 2 storeys && eqb storey 1 && ltb side 4000) 113 100
 
 -- "Constant in 0.01 kN/m² × area × zone × ground × narrow factor in hundredths." "An end uses its own area, its part's number of storeys
 -- for the constant, and its storey's other factors": so for a storey the storeys are the house's, for an end its part's.
 unfoldable pub requiredStrength : ℕ → ℕ → ℕ → ℕ → ℕ → ℕ → ℕ → ℕ
 requiredStrength storeys storey weight area zone ground narrow = constant storeys storey weight * area * zone * groundFactor ground * narrow
 
--- The most held strength, in this unit: more than a house can need.
+-- 60,000 kN in this unit, more than a storey can need. Where bands and scores are computed, a required strength above this counts as this.
 abbrev pub mostRequired : ℕ
 mostRequired = 1000 * mostHeld

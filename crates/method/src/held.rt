@@ -1,6 +1,6 @@
 // What a wall counts towards the held strength, in 0.000001 kN.
 use crate::joints::joint_factor;
-use crate::limits::least;
+use crate::limits::smaller;
 ghost use mathlib.Core.Path.{_≡_};
 ghost use Prim.Native.Nat.{_≤_};
 ghost use Rattle.method.specs.Held.{solidShare, openingShare, wallShare};
@@ -17,7 +17,7 @@ fn solid_share(
     ensures { λ r. ⌜ r ≡ solidShare storeys storey foundation joint strength length ⌝ }
 {
     let factor = joint_factor(storeys, storey, foundation, joint, strength);
-    least(strength as u64, 100) * factor as u64 * length as u64
+    smaller(strength as u64, 100) * factor as u64 * length as u64
 }
 
 // An opening, by its strength in 0.1 kN/m.
@@ -25,7 +25,7 @@ fn opening_share(strength: u64, length: u32) -> u64
     requires { ⌜ strength ≤ 6 ⌝ }
     ensures { λ r. ⌜ r ≡ openingShare strength length ⌝ }
 {
-    strength * 100 * least(length as u64, 3000)
+    strength * 100 * smaller(length as u64, 3000)
 }
 
 // A wall by its type: 1 solid, 2 window opening, 3 full-height opening; 0 for any other.

@@ -1,9 +1,9 @@
 // The joint factor (000's Kj): how far the joints at its columns lower a solid wall.
 ghost use mathlib.Core.Path.{_≡_};
 ghost use Prim.Native.Nat.{_<_, _≤_};
-ghost use Rattle.method.specs.Held.{position, foundationUsed, sharedRow, entry, straight, jointFactor};
+ghost use Rattle.method.specs.Held.{position, foundationUsed, sharedRow, entry, interpolated, rowFactor, jointFactor};
 
-// 000's reference 2, tables 1 to 3 (its table 4.3), in hundredths: a line a joint; from the left the
+// 000's reference 2, tables 1 to 3 (as its table 4.3), in hundredths: a line a joint; from the left the
 // strengths 2.0, 3.0, 5.0 and 7.0 kN/m, in tables 2 and 3 each for foundations I, II and III.
 
 // Table 1: the top storey of two or three.
@@ -92,21 +92,21 @@ fn entry(position: u32, foundation: u32, joint: u32, column: usize) -> u8
 }
 
 // The straight line from one strength and its entry to the next, to the nearest hundredth, half up.
-fn straight(from: u32, to: u32, left: u8, right: u8, strength: u32) -> u32
+fn interpolated(from: u32, to: u32, left: u8, right: u8, strength: u32) -> u32
     requires { ⌜ from < to ⌝ }
     requires { ⌜ to ≤ 70 ⌝ }
     requires { ⌜ from ≤ strength ⌝ }
     requires { ⌜ strength < to ⌝ }
-    ensures { λ r. ⌜ r ≡ straight from to left right strength ⌝ }
+    ensures { λ r. ⌜ r ≡ interpolated from to left right strength ⌝ }
 {
     let width = to - from;
     let sum = left as u32 * (to - strength) + right as u32 * (strength - from);
     (2 * sum + width) / (2 * width)
 }
 
-// The factor of a strength along a printed line.
-fn along_row(position: u32, foundation: u32, joint: u32, strength: u32) -> u32
-    ensures { λ r. ⌜ r ≡ jointFactor position foundation joint strength ⌝ }
+// The factor of a strength by a row of the tables.
+fn row_factor(position: u32, foundation: u32, joint: u32, strength: u32) -> u32
+    ensures { λ r. ⌜ r ≡ rowFactor (entry position foundation joint) strength ⌝ }
 {
     let first = entry(position, foundation, joint, 0);
     if strength < 20 {
@@ -114,24 +114,24 @@ fn along_row(position: u32, foundation: u32, joint: u32, strength: u32) -> u32
     }
     let second = entry(position, foundation, joint, 1);
     if strength < 30 {
-        return straight(20, 30, first, second, strength);
+        return interpolated(20, 30, first, second, strength);
     }
     let third = entry(position, foundation, joint, 2);
     if strength < 50 {
-        return straight(30, 50, second, third, strength);
+        return interpolated(30, 50, second, third, strength);
     }
     let fourth = entry(position, foundation, joint, 3);
     if strength < 70 {
-        return straight(50, 70, third, fourth, strength);
+        return interpolated(50, 70, third, fourth, strength);
     }
     fourth as u32
 }
 
-// The joint factor of a solid wall, in hundredths.
+// The joint factor of a solid wall, in hundredths; 0 where there is no such joint or foundation.
 pub fn joint_factor(storeys: u32, storey: u32, foundation: u32, joint: u32, strength: u32) -> u8
-    ensures { λ r. ⌜ r ≡ jointFactor (position storeys storey) (foundationUsed storeys storey foundation) joint strength ⌝ }
+    ensures { λ r. ⌜ r ≡ jointFactor storeys storey foundation joint strength ⌝ }
 {
     let position = position(storeys, storey);
     let used = foundation_used(storeys, storey, foundation);
-    along_row(position, used, joint, strength) as u8
+    row_factor(position, used, joint, strength) as u8
 }

@@ -1,7 +1,7 @@
 // How far the layout of walls lowers a storey's strength: the bands of its ends, and its floor.
 use crate::limits::MOST_HELD;
 use crate::limits::MOST_REQUIRED;
-use crate::limits::least;
+use crate::limits::smaller;
 ghost use mathlib.Core.Path.{_≡_};
 ghost use Prim.Native.Nat.{_≤_, min};
 ghost use Rattle.method.specs.Held.{mostHeld};
@@ -62,11 +62,12 @@ fn reached(held: u64, required: u64, limit: u64) -> u32
 }
 
 // The band of an end, A as 0 to E as 4, by its solid walls' held strength and its required strength.
+// Strengths above 60,000 kN count as that.
 pub fn band(held: u64, required: u64) -> u32
     ensures { λ r. ⌜ r ≡ band (min held mostHeld) (min required mostRequired) ⌝ }
 {
-    let holds = least(held, MOST_HELD);
-    let needs = least(required, MOST_REQUIRED);
+    let holds = smaller(held, MOST_HELD);
+    let needs = smaller(required, MOST_REQUIRED);
     reached(holds, needs, 33)
         + reached(holds, needs, 66)
         + reached(holds, needs, 100)

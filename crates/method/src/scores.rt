@@ -2,7 +2,7 @@
 use crate::deterioration::Fraction;
 use crate::limits::MOST_HELD;
 use crate::limits::MOST_REQUIRED;
-use crate::limits::least;
+use crate::limits::smaller;
 ghost use mathlib.Core.Path.{_≡_};
 ghost use Prim.Native.Nat.{min};
 ghost use Rattle.method.specs.Held.{mostHeld};
@@ -10,21 +10,21 @@ ghost use Rattle.method.specs.Required.{mostRequired};
 ghost use Rattle.method.specs.Score.{score, scoreBeforeLayout, verdict};
 
 // The score of a held strength, a required strength, a layout factor in hundredths and a deterioration
-// factor. Nothing required is no house's; its quotient is 0.
+// factor. Strengths above 60,000 kN count as that. Where nothing is required, as in no house, it is 0.
 pub fn score(held: u64, required: u64, layout: u8, deterioration: Fraction) -> u32
     ensures { λ r. ⌜ r ≡ score (min held mostHeld) (min required mostRequired) layout deterioration ⌝ }
 {
-    let holds = least(held, MOST_HELD);
-    let needs = least(required, MOST_REQUIRED);
+    let holds = smaller(held, MOST_HELD);
+    let needs = smaller(required, MOST_REQUIRED);
     let divisor = needs * deterioration.lower as u64;
     if divisor == 0 {
         return 0;
     }
     let dividend = 1000 * holds * layout as u64 * deterioration.upper as u64;
-    least(dividend / divisor, 999) as u32
+    smaller(dividend / divisor, 999) as u32
 }
 
-// The score before the layout factor.
+// The score before the layout factor: with 100 for it.
 pub fn score_before_layout(held: u64, required: u64, deterioration: Fraction) -> u32
     ensures { λ r. ⌜ r ≡ scoreBeforeLayout (min held mostHeld) (min required mostRequired) deterioration ⌝ }
 {
@@ -32,16 +32,16 @@ pub fn score_before_layout(held: u64, required: u64, deterioration: Fraction) ->
 }
 
 // The verdict of a house's least score, 1 to 4.
-pub fn verdict(lowest: u32) -> u32
-    ensures { λ r. ⌜ r ≡ verdict lowest ⌝ }
+pub fn verdict(least: u32) -> u32
+    ensures { λ r. ⌜ r ≡ verdict least ⌝ }
 {
-    if 150 <= lowest {
+    if 150 <= least {
         return 1;
     }
-    if 100 <= lowest {
+    if 100 <= least {
         return 2;
     }
-    if 70 <= lowest {
+    if 70 <= least {
         return 3;
     }
     4

@@ -9,15 +9,15 @@ use Rattle.method.proofs.held.opening_share.Tie as tie
 mul-result : tie.Need-mul-result
 mul-result c = search needs
 
-least-requires : tie.Need-least-requires
-least-requires c κs = search needs
+smaller-requires : tie.Need-smaller-requires
+smaller-requires c κs = search needs
 
 mul-result-2 : tie.Need-mul-result-2
-mul-result-2 c = times-fits 600 3000 (omega arith) (omega (arith, c .least .ensures)) tt
+mul-result-2 c = times-fits 600 3000 (omega arith) (omega (arith, c .smaller .ensures)) tt
 
 returns : tie.Need-returns
 unfolding openingShare
-returns c = rw (← c .least .ensures)
+returns c = rw (← c .smaller .ensures)
 
 pub opening-share-spec : {M : Type 1} → statement M
-opening-share-spec = tie.close (tie.spec mul-result least-requires mul-result-2 returns)
+opening-share-spec = tie.close (tie.spec mul-result smaller-requires mul-result-2 returns)

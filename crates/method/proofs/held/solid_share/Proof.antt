@@ -10,23 +10,23 @@ use Rattle.method.proofs.held.solid_share.Tie as tie
 joint-factor-requires : tie.Need-joint-factor-requires
 joint-factor-requires c κs = search needs
 
-least-requires : tie.Need-least-requires
-least-requires c κs = search needs
+smaller-requires : tie.Need-smaller-requires
+smaller-requires c κs = search needs
 
 cast-result : tie.Need-cast-result
 cast-result c = search needs
 
 mul-result : tie.Need-mul-result
-mul-result c = times-fits 255 255 (omega (arith, c .least .ensures)) (omega arith) tt
+mul-result c = times-fits 255 255 (omega (arith, c .smaller .ensures)) (omega arith) tt
 
 mul-result-2 : tie.Need-mul-result-2
-mul-result-2 c = times-fits (255 * 255) 4294967295 (times-most 255 255 (omega (arith, c .least .ensures)) (omega arith)) (omega arith) tt
+mul-result-2 c = times-fits (255 * 255) 4294967295 (times-most 255 255 (omega (arith, c .smaller .ensures)) (omega arith)) (omega arith) tt
 
 returns : tie.Need-returns
 unfolding solidShare
-returns c = rw (← c .before .joint-factor .ensures, ← c .least .ensures)
+returns c = rw (← c .before .joint-factor .ensures, ← c .smaller .ensures)
 
 pub solid-share-spec : {M : Type 1} → statement M
 solid-share-spec =
     tie.close
-    (tie.spec joint-factor-requires least-requires cast-result mul-result mul-result-2 returns)
+    (tie.spec joint-factor-requires smaller-requires cast-result mul-result mul-result-2 returns)

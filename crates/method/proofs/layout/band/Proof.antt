@@ -7,11 +7,11 @@ use Rattle.method.proofs.Bands.{reached-most}
 use Rattle.method.proofs.layout.band.Statement.{statement}
 use Rattle.method.proofs.layout.band.Tie as tie
 
-least-requires : tie.Need-least-requires
-least-requires c κs = search needs
+smaller-requires : tie.Need-smaller-requires
+smaller-requires c κs = search needs
 
-least-requires-2 : tie.Need-least-requires-2
-least-requires-2 c κs = search needs
+smaller-requires-2 : tie.Need-smaller-requires-2
+smaller-requires-2 c κs = search needs
 
 reached-requires : tie.Need-reached-requires
 reached-requires c κs = search needs
@@ -50,10 +50,10 @@ returns : tie.Need-returns
 unfolding band
 returns c =
     let at-first = c .before .before .before in
-    let at-least = at-first .before .before in
+    let at-smaller = at-first .before .before in
     rw (
-      ← at-least .least .ensures,
-      ← at-first .before .least2 .ensures,
+      ← at-smaller .smaller .ensures,
+      ← at-first .before .smaller2 .ensures,
       ← at-first .reached .ensures,
       ← c .before .before .reached2 .ensures,
       ← c .before .reached3 .ensures,
@@ -64,8 +64,8 @@ pub band-spec : {M : Type 1} → statement M
 band-spec =
     tie.close
     (tie.spec
-    least-requires
-    least-requires-2
+    smaller-requires
+    smaller-requires-2
     reached-requires
     reached-requires-2
     add-result

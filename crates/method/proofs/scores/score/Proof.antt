@@ -10,20 +10,20 @@ use Rattle.method.proofs.Products.{times-most, times-fits}
 use Rattle.method.proofs.scores.score.Statement.{statement}
 use Rattle.method.proofs.scores.score.Tie as tie
 
-least-requires : tie.Need-least-requires
-least-requires c κs = search needs
+smaller-requires : tie.Need-smaller-requires
+smaller-requires c κs = search needs
 
-least-requires-2 : tie.Need-least-requires-2
-least-requires-2 c κs = search needs
+smaller-requires-2 : tie.Need-smaller-requires-2
+smaller-requires-2 c κs = search needs
 
 cast-divisor : tie.Need-cast-divisor
 cast-divisor c = search needs
 
-holds-most : (c : tie.After-least) → c .least .result ≤ mostHeld
-holds-most c = rw (c .least .ensures) (min-le-right _ mostHeld)
+holds-most : (c : tie.After-smaller) → c .smaller .result ≤ mostHeld
+holds-most c = rw (c .smaller .ensures) (min-le-right _ mostHeld)
 
-needs-most : (c : tie.After-least2) → c .least2 .result ≤ mostRequired
-needs-most c = rw (c .least2 .ensures) (min-le-right _ mostRequired)
+needs-most : (c : tie.After-smaller2) → c .smaller2 .result ≤ mostRequired
+needs-most c = rw (c .smaller2 .ensures) (min-le-right _ mostRequired)
 
 mul-divisor : tie.Need-mul-divisor
 mul-divisor c = times-fits mostRequired 255 (needs-most (c .before)) (omega arith) tt
@@ -31,9 +31,9 @@ mul-divisor c = times-fits mostRequired 255 (needs-most (c .before)) (omega arit
 returns : tie.Need-returns
 unfolding score
 returns c =
-    let at-least = c .before .before .before in
-    let args = at-least .before .args in
-    rw (← at-least .least .ensures, ← c .before .before .least2 .ensures, c .if1 .taken, div-zero (1000 * at-least .least .result * args .layout * args .deterioration .upper))
+    let at-smaller = c .before .before .before in
+    let args = at-smaller .before .args in
+    rw (← at-smaller .smaller .ensures, ← c .before .before .smaller2 .ensures, c .if1 .taken, div-zero (1000 * at-smaller .smaller .result * args .layout * args .deterioration .upper))
 
 mul-dividend : tie.Need-mul-dividend
 mul-dividend c = search needs
@@ -49,11 +49,11 @@ mul-dividend-3 c =
     times-fits (1000 * mostHeld * 255) 255
     (times-most (1000 * mostHeld) 255 (omega (arith, holds-most (c .before .before .before .before))) (omega arith)) (omega arith) tt
 
-div-least : tie.Need-div-least
-div-least c = search needs
+div-smaller : tie.Need-div-smaller
+div-smaller c = search needs
 
-least-requires-3 : tie.Need-least-requires-3
-least-requires-3 c κs = search needs
+smaller-requires-3 : tie.Need-smaller-requires-3
+smaller-requires-3 c κs = search needs
 
 cast-result : tie.Need-cast-result
 cast-result c = search needs
@@ -62,14 +62,14 @@ returns-2 : tie.Need-returns-2
 unfolding score
 returns-2 c =
     let at-needs = c .before .before .before .before in
-    rw (← at-needs .before .least .ensures, ← at-needs .least2 .ensures) (c .least3 .ensures)
+    rw (← at-needs .before .smaller .ensures, ← at-needs .smaller2 .ensures) (c .smaller3 .ensures)
 
 pub score-spec : {M : Type 1} → statement M
 score-spec =
     tie.close
     (tie.spec
-    least-requires
-    least-requires-2
+    smaller-requires
+    smaller-requires-2
     cast-divisor
     mul-divisor
     returns
@@ -77,7 +77,7 @@ score-spec =
     mul-dividend-2
     cast-dividend
     mul-dividend-3
-    div-least
-    least-requires-3
+    div-smaller
+    smaller-requires-3
     cast-result
     returns-2)

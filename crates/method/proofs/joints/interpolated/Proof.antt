@@ -1,13 +1,13 @@
--- `straight` is what its definition says. Assumes nothing.
+-- `interpolated` is what its definition says. Assumes nothing.
 use mathlib.Core.Path.{refl}
 use Prim.Native.Nat.{_+_, _-_, _*_, _≤_}
 use native.Mathlib.Nat.{add-le-add}
 use native.Mathlib.Omega.{arith}
 use borrow.Author.Needs.{needs}
-use Rattle.method.specs.Held.{straight}
+use Rattle.method.specs.Held.{interpolated}
 use Rattle.method.proofs.Products.{times-most, times-fits}
-use Rattle.method.proofs.joints.straight.Statement.{statement}
-use Rattle.method.proofs.joints.straight.Tie as tie
+use Rattle.method.proofs.joints.interpolated.Statement.{statement}
+use Rattle.method.proofs.joints.interpolated.Tie as tie
 
 sub-width : tie.Need-sub-width
 sub-width c = search needs
@@ -43,11 +43,11 @@ div-result : tie.Need-div-result
 div-result c = search needs
 
 returns : tie.Need-returns
-unfolding straight
+unfolding interpolated
 returns c = refl
 
-pub straight-spec : {M : Type 1} → statement M
-straight-spec =
+pub interpolated-spec : {M : Type 1} → statement M
+interpolated-spec =
     tie.close
     (tie.spec
     sub-width
