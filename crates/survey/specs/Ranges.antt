@@ -73,7 +73,7 @@ endsColumns table row =
 abbrev pub isOpening : ℕ → Bool
 isOpening type = eqb type 2 || eqb type 3
 
--- "For types 2 and 3 strength and joint are 0. Where the type is none of the three, columnsFault 5 and 7 are judged as for type 1."
+-- "For types 2 and 3 strength and joint are 0. Where the type is none of the three, columns 5 and 7 are judged as for type 1."
 abbrev pub solid : List ℕ → ℕ → Range → Range
 solid table row range = cond (isOpening (cell table row 7)) unused range
 
