@@ -11,7 +11,7 @@ use lib.Bits.{bitAnd, and-step, and-zero-r, and-le-r}
 use lib.Count.{onesIn, ones, ones-step, ones-le}
 use borrow.Author.Tests.{eqb-true, ltb-true, lt-ltb, eq-eqb}
 use Rattle.method.specs.Deterioration.{itemPoints, itemPointsUnderTen, points, countedMarks}
-use Rattle.method.proofs.Tables.{both-left, both-right, every}
+use Rattle.method.proofs.Tables.{and-true, every}
 use Rattle.method.proofs.Branches.{cond-most}
 
 -- The items of both of two sets, digit by digit.
@@ -76,8 +76,8 @@ unfolding itemsOf points isWeight
 by-weight [] h set = refl
 by-weight (p ∷ ps) h set =
     let digit = set % 2 in
-    let this = weighed p digit (both-left (isWeight p) (every isWeight ps) h) in
-    let rest = by-weight ps (both-right (isWeight p) (every isWeight ps) h) (set / 2) in
+    let this = weighed p digit (and-true (isWeight p) (every isWeight ps) h .0) in
+    let rest = by-weight ps (and-true (isWeight p) (every isWeight ps) h .1) (set / 2) in
     rw (flagged (eqb p 4) digit, flagged (eqb p 2) digit, flagged (eqb p 1) digit) (omega (arith, this, rest))
 
 -- Mask by weight, then count ones: 8 has the item of four points, 5,911 those of two, 2,272 those of one.
@@ -142,8 +142,9 @@ module _ (fewer marked : ℕ) (within : bitAnd fewer marked ≡ fewer) where
           → points itemPoints fewer ≤ cond t 0 (points itemPoints marked)
       go false e counts = points-rise itemPoints
       go true e counts =
-          let young : age < 2 = ltb-true age 2 (both-left _ (eqb (points itemPointsUnderTen marked) 0) e) in
-          let none : points itemPointsUnderTen marked ≡ 0 = eqb-true _ 0 (both-right (ltb age 2) _ e) in
+          let both = and-true (ltb age 2) _ e in
+          let young = ltb-true age 2 (both .0) in
+          let none = eqb-true (points itemPointsUnderTen marked) 0 (both .1) in
           let none-fewer : points itemPointsUnderTen fewer ≡ 0 = omega (arith, none, points-rise itemPointsUnderTen) in
           absurd (subst T (sym (not-counted {younger = younger} (omega (arith, young, older)) none-fewer) ∙ counts) tt)
 

@@ -10,7 +10,7 @@ use lib.Dec.{eqb, leb, ltb, lit≤}
 use borrow.Author.Tests.{leb-true, ltb-true, ltb-false, le-leb, le-ltb}
 use Rattle.method.specs.Printed.{nth}
 use Rattle.method.specs.Required.{constants, topLine, constant, groundFactor, narrowFactor, requiredStrength, mostRequired}
-use Rattle.method.proofs.Tables.{nth-is, nth-none, both-left, both-right, implied, every, getD-every, nth-every, small, short, everyBelow, at-every}
+use Rattle.method.proofs.Tables.{nth-is, nth-none, and-true, implied, every, getD-every, nth-every, small, short, everyBelow, at-every}
 use Rattle.method.proofs.Branches.{cond-most, cond-least, cond-same}
 
 -- Three storeys begin at line 3, and no number of storeys later.
@@ -60,10 +60,10 @@ module _ {storeys storey : ℕ} (some : 1 ≤ storey) (most : storey ≤ storeys
         (rw (le-leb 1 storey some, le-leb storey storeys most, le-leb 1 lighter class, le-leb lighter weight heavier))
 
     pub constant-positive : 0 < constant storeys storey lighter
-    constant-positive = ltb-true 0 (constant storeys storey lighter) (both-left _ (leb (constant storeys storey lighter) (constant storeys storey weight)) constant-test)
+    constant-positive = ltb-true 0 (constant storeys storey lighter) (and-true (ltb 0 (constant storeys storey lighter)) _ constant-test .0)
 
     pub constant-rises : constant storeys storey lighter ≤ constant storeys storey weight
-    constant-rises = leb-true _ (constant storeys storey weight) (both-right (ltb 0 (constant storeys storey lighter)) _ constant-test)
+    constant-rises = leb-true _ (constant storeys storey weight) (and-true (ltb 0 (constant storeys storey lighter)) _ constant-test .1)
 
 -- Very soft ground asks for more, and the factor is at least 10.
 ground-least : (ground : ℕ) → 10 ≤ groundFactor ground

@@ -22,13 +22,10 @@ module _ {A : Type 0} (list : List A) where
   nth-none zero none h = refl
   nth-none (suc n) none h = List·getD-eq-default list none (omega (arith, h (omega arith)))
 
-pub both-left : (a b : Bool) → a && b ≡ true → a ≡ true
-both-left true b h = refl
-both-left false b h = h
-
-pub both-right : (a b : Bool) → a && b ≡ true → b ≡ true
-both-right true b h = h
-both-right false b h = absurd (subst T (sym h) tt)
+-- Both of two tests.
+pub and-true : (a b : Bool) → a && b ≡ true → (a ≡ true) × (b ≡ true)
+and-true true b h = (refl, h)
+and-true false b h = absurd (subst T (sym h) tt)
 
 -- A test of which one part is asked only where the other holds.
 pub implied : (a : Bool) {b : Bool} → not a || b ≡ true → a ≡ true → b ≡ true
@@ -43,8 +40,8 @@ every passes (x ∷ xs) = passes x && every passes xs
 module _ {A : Type 0} (passes : A → Bool) {none : A} (default : passes none ≡ true) where
   pub getD-every : (list : List A) → every passes list ≡ true → (n : ℕ) → passes (getD list n none) ≡ true
   getD-every [] h n = default
-  getD-every (x ∷ xs) h zero = both-left (passes x) (every passes xs) h
-  getD-every (x ∷ xs) h (suc n) = getD-every xs (both-right (passes x) (every passes xs) h) n
+  getD-every (x ∷ xs) h zero = and-true (passes x) (every passes xs) h .0
+  getD-every (x ∷ xs) h (suc n) = getD-every xs (and-true (passes x) (every passes xs) h .1) n
 
   pub nth-every : (list : List A) → every passes list ≡ true → (n : ℕ) → passes (nth list n none) ≡ true
   unfolding nth
@@ -67,8 +64,8 @@ everyBelow (suc n) passes = passes n && everyBelow n passes
 pub at-every : (n : ℕ) (passes : ℕ → Bool) → everyBelow n passes ≡ true → (k : ℕ) → k < n → passes k ≡ true
 unfolding everyBelow
 at-every zero passes h k less = absurd (omega arith)
-at-every (suc n) passes h k less = go (decLt k n) (at-every n passes (both-right (passes n) (everyBelow n passes) h) k)
+at-every (suc n) passes h k less = go (decLt k n) (at-every n passes (and-true (passes n) (everyBelow n passes) h .1) k)
   where
     go : Dec (k < n) → (k < n → passes k ≡ true) → passes k ≡ true
     go (yes below) rest = rest below
-    go (no last) rest = subst (λ (m : ℕ). passes m ≡ true) (omega (arith, last)) (both-left (passes n) (everyBelow n passes) h)
+    go (no last) rest = subst (λ (m : ℕ). passes m ≡ true) (omega (arith, last)) (and-true (passes n) (everyBelow n passes) h .0)

@@ -42,7 +42,7 @@ abbrev pub fraction : ℕ → ℕ → Fraction
 fraction upper lower = record { upper = upper; lower = lower }
 
 -- "With no counted mark the factor is 1. Else it is (present − marked) / present in points, never below 7/10." It is below where
--- 10 × (present − marked) < 7 × present.
+-- 10 × (present − marked) < 7 × present, here with 10 × marked added to both sides.
 unfoldable pub factorOf : ℕ → ℕ → Fraction
 factorOf present marked =
     cond (eqb marked 0) (fraction 1 1)

@@ -48,8 +48,8 @@ foundationUsed storeys storey foundation = cond (eqb storeys 3 && eqb storey 2) 
 unfoldable pub sharedRow : ℕ → ℕ
 sharedRow joint = cond (eqb joint 4) 3 joint
 
--- The printed entry of a position, a foundation 1 to 3 and a joint 1 to 4, in a column of strength, from 0. The first table has no
--- foundations. Where there is no such foundation or joint it is 0.
+-- The printed entry of a position, a foundation 1 to 3 and a joint 1 to 4, in a column of strength, from 0. Table 1 has no foundations. Where
+-- its table has no such entry it is 0.
 unfoldable pub entry : ℕ → ℕ → ℕ → ℕ → ℕ
 entry position foundation joint column =
     cond (eqb position 1) (getD (nth topStorey joint []) column 0)

@@ -64,7 +64,7 @@ fn shared_row(joint: u32) -> u32
     joint
 }
 
-// A printed entry, in a column of strength from 0; 0 where there is no such foundation or joint.
+// A printed entry, in a column of strength from 0; 0 where its table has none.
 fn entry(position: u32, foundation: u32, joint: u32, column: usize) -> u8
     requires { ⌜ column < 4 ⌝ }
     ensures { λ r. ⌜ r ≡ entry position foundation joint column ⌝ }
@@ -127,7 +127,7 @@ fn row_factor(position: u32, foundation: u32, joint: u32, strength: u32) -> u32
     fourth as u32
 }
 
-// The joint factor of a solid wall, in hundredths; 0 where there is no such joint or foundation.
+// The joint factor of a solid wall, in hundredths; 0 where its table has no such entry.
 pub fn joint_factor(storeys: u32, storey: u32, foundation: u32, joint: u32, strength: u32) -> u8
     ensures { λ r. ⌜ r ≡ jointFactor storeys storey foundation joint strength ⌝ }
 {

@@ -1,15 +1,16 @@
 -- A storey's walls: in an accepted table the first run of them is all of them. Assumes nothing.
 use mathlib.Core.Path.{_≡_, refl, sym, ap, subst, _∙_}
-use mathlib.Core.Bool.{Bool, true, false, not, _&&_}
+use mathlib.Core.Bool.{Bool, true, false, not}
 use mathlib.Core.List.{List, [], _++_, append-nil, append-assoc}
 use Prim.Native.Nat.{ℕ, zero, suc, _+_, _-_, _*_, _/_, _<_, _≤_}
 use native.Mathlib.Nat.{mul-suc, add-zero, add-suc, zero-add, le-refl, le-trans}
 use native.Mathlib.Decide.{decLt}
 use native.Mathlib.Omega.{arith}
-use lib.Dec.{T}
+use mir.Facts.{and-yes}
+use lib.Dec.{T, eqb→eq}
 use lib.ListN.{length, getD, take, drop}
 use lib.Seq.{take-add, drop-drop}
-use borrow.Author.Tests.{eqb-true, eq-eqb, ne-eqb, not-true, not-false}
+use borrow.Author.Tests.{eq-eqb, ne-eqb, not-true, not-false}
 use Rattle.answer.specs.First.{first}
 use Rattle.answer.proofs.Parts.{lent-part, part-size, part-element}
 use Rattle.answer.proofs.Places.{before-first, at-first, first-most}
@@ -53,10 +54,6 @@ module _ (test : ℕ → Bool) (table : List ℕ) (row : ℕ) where
   where-all zero h = rw add-zero (sym (append-nil _))
   where-all (suc n) h =
       rw (add-suc, h n (omega arith), where-all n (λ k l. h k (omega arith)), append-assoc, rows-more table row n)
-
-and-true : (a b : Bool) → (a && b) ≡ true → (a ≡ true) × (b ≡ true)
-and-true true b e = (refl, e)
-and-true false b e = absurd (subst T (sym e) tt)
 
 -- What is shown of a storey: so many rows from a row on, each of them a wall of that storey, and no other row is one.
 pub record Shown (table : List ℕ) (storey : ℕ) : Type 0 where
@@ -106,9 +103,9 @@ module _ (table : List ℕ) (h : (judging table) .number ≡ 0) where
     taken-is : (row : ℕ) → row < rows → taken row ≡ true → (firstWall table ≤ row) × (row < partsRow table) × (cell table row 1 ≡ storey)
     unfolding isWallOf
     taken-is row h e =
-        let both = and-true (isWall table row) _ e in
-        let stands = wall-stands row h (eqb-true (cell table row 0) 4 (both .0)) in
-        (stands .0, stands .1, eqb-true (cell table row 1) storey (both .1))
+        let both = and-yes (isWall table row) _ (subst T (sym e) tt) in
+        let stands = wall-stands row h (eqb→eq (cell table row 0) 4 (both .0)) in
+        (stands .0, stands .1, eqb→eq (cell table row 1) storey (both .1))
 
     is-taken : (row : ℕ) → firstWall table ≤ row → row < partsRow table → cell table row 1 ≡ storey → taken row ≡ true
     unfolding isWallOf
