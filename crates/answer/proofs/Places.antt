@@ -60,3 +60,10 @@ at-first test (suc n) h = go (test 0) refl (at-first (λ i. test (suc i)) n) h
         → cond b 0 (suc (first (λ i. test (suc i)) n)) < suc n → test (cond b 0 (suc (first (λ i. test (suc i)) n))) ≡ true
     go true e later h = e
     go false e later h = later (le-of-suc-le-suc h)
+
+-- Two tests that agree everywhere hold first at the same place.
+pub first-same : (test other : ℕ → Bool) (n : ℕ) → ((k : ℕ) → test k ≡ other k) → first test n ≡ first other n
+unfolding first
+first-same test other zero same = refl
+first-same test other (suc n) same =
+    rw (same 0, first-same (λ k. test (suc k)) (λ k. other (suc k)) n (λ k. same (suc k)))

@@ -1,7 +1,8 @@
 -- How much a wall can count, and how much a house's walls together. Assumes nothing.
-use mathlib.Core.List.{List, [], _∷_}
-use Prim.Native.Nat.{ℕ, suc, _*_, _<_, _≤_, suc-le-suc, min}
-use native.Mathlib.Nat.{min-le-right, mul-le-mul, mul-le-mul-right, zero-lt-suc}
+use mathlib.Core.Path.{_≡_, sym}
+use mathlib.Core.List.{List, [], _∷_, _++_}
+use Prim.Native.Nat.{ℕ, suc, _+_, _*_, _<_, _≤_, suc-le-suc, min}
+use native.Mathlib.Nat.{min-le-right, mul-le-mul, mul-le-mul-right, zero-add, zero-lt-suc}
 use native.Mathlib.Omega.{arith}
 use lib.ListN.{length, getD}
 use lib.Dec.{eqb, lit≤}
@@ -32,6 +33,12 @@ module _ (storeys storey foundation joint strength length : ℕ) (short : length
       cond-most (eqb walltype 1) (λ e. solid-most)
       (λ e. cond-most (eqb walltype 2) (λ d. opening-most 6 (lit≤ tt))
       (λ d. cond-most (eqb walltype 3) (λ f. opening-most 3 (lit≤ tt)) (λ f. lit≤ tt)))
+
+-- The sum over some walls and then others.
+pub held-append : (one other : List ℕ) → heldStrength (one ++ other) ≡ heldStrength one + heldStrength other
+unfolding heldStrength
+held-append [] other = sym (zero-add (heldStrength other))
+held-append (share ∷ shares) other = omega (arith, held-append shares other)
 
 -- The sum over walls that each count at most so much.
 pub held-per-wall : (shares : List ℕ) → ((k : ℕ) → k < length shares → getD shares k 0 ≤ mostShare) → heldStrength shares ≤ length shares * mostShare

@@ -5,5 +5,6 @@ pub mod Judged
 pub mod Inside
 pub mod Acceptance
 pub mod Shown
+pub mod Alike
 pub mod Sets
 pub mod Examples

@@ -1,0 +1,291 @@
+-- Demand 3: a house made worse scores no better. Assumes nothing.
+use mathlib.Core.Path.{_≡_, refl, sym, ap, fun-ext, _∙_}
+use mathlib.Core.Bool.{false, _||_, and-false}
+use mathlib.Core.List.{List, [], _∷_}
+use Prim.Native.Nat.{ℕ, zero, suc, _+_, _-_, _*_, _/_, _%_, _<_, _≤_}
+use native.Mathlib.Nat.{le-refl, le-trans, le-of-eq}
+use native.Mathlib.Omega.{arith}
+use lib.Dec.{eqb}
+use lib.Bits.{bitAnd}
+use lib.ListN.{length, getD, drop, List·getD-append}
+use borrow.Author.Tests.{eq-eqb, ne-eqb, eqb-true}
+use Rattle.sheet.specs.Sheet.{over}
+use Rattle.sheet.proofs.Lists.{joined-length, joined-part, part-at}
+use Rattle.survey.specs.Table.{cell, storeys, endsRow, endsStorey, partsRow}
+use Rattle.survey.specs.Ranges.{endsColumns}
+use Rattle.survey.specs.Judgement.{judging, within}
+use Rattle.survey.specs.Walls.{storeyWalls}
+use Rattle.survey.proofs.Acceptance.{Accepted, accepted, accepted-zone}
+use Rattle.survey.proofs.Inside.{Inside}
+use Rattle.survey.proofs.Positions.{ends-storey}
+use Rattle.survey.proofs.Alike.{parts-row-alike, walls-alike}
+use Rattle.method.proofs.Requirements.{narrow-least, required-rises, required-positive}
+use Rattle.method.proofs.Bands.{floor-most}
+use Rattle.method.proofs.Fractions.{_at-most_, deterioration-bounded, deterioration-falls}
+use Rattle.method.proofs.Comparisons.{score-before-falls, full-score-falls, verdict-rises}
+use Rattle.method.specs.Required.{narrowFactor}
+use Rattle.diagnosis.specs.declared.scores.Outcome.{Outcome}
+use Rattle.diagnosis.specs.declared.scores.Outcome.the-variants.{Scored, Refused}
+use Rattle.diagnosis.specs.declared.scores.Record.{Record}
+use Rattle.diagnosis.specs.declared.scores.Scoring.{Scoring}
+use Rattle.diagnosis.specs.House.{ground, foundation, present, marked, age, endA, endB, share, heldWhere, held, endHeld, requiredOf, required, endRequired, endBand, higherBand, floor, layout, deterioration, scoreBefore, fullScore, storeyScores, scores, leastOf, leastScore, houseVerdict}
+use Rattle.diagnosis.specs.Answers.{ToldScoring, toldOutcome, toldScoring, noScores, recordOf, scoring}
+use Rattle.diagnosis.specs.Comparison.{mayDiffer, Worse, Stands, Kept, scoreAt, NoBetter}
+
+-- The scores of a house, two a storey.
+pub scores-length : (table : List ℕ) → length (scores table) ≡ 2 * storeys table
+unfolding scores
+scores-length table = joined-length 2 (λ below. storeyScores table (below + 1)) (λ i. refl) (storeys table)
+
+two-listed : (f : ℕ → ℕ) (direction : ℕ) → 1 ≤ direction → direction ≤ 2 → getD (f 1 ∷ f 2 ∷ []) (direction - 1) 0 ≡ f direction
+two-listed f zero some most = absurd (omega arith)
+two-listed f (suc zero) some most = refl
+two-listed f (suc (suc zero)) some most = refl
+two-listed f (suc (suc (suc n))) some most = absurd (omega arith)
+
+module _ (table : List ℕ) (storey direction : ℕ) (s : Stands table storey direction) where
+  -- Among them, the score of a storey and direction.
+  pub score-listed : getD (scores table) (scoreAt storey direction) 0 ≡ fullScore table storey direction
+  unfolding scores
+  score-listed =
+      let next : storey - 1 + 1 ≡ storey = omega arith in
+      sym (part-at 2 (storey - 1) (scores table) (direction - 1) (omega arith))
+      ∙ ap (λ (p : List ℕ). getD p (direction - 1) 0)
+      (joined-part 2 (λ below. storeyScores table (below + 1)) (λ i. refl) (storeys table) (storey - 1) (omega arith))
+      ∙ rw next (two-listed (fullScore table storey) direction (s .some-direction) (s .last-direction))
+
+  -- And in the house's record.
+  pub record-score : getD (recordOf table .scores) (scoreAt storey direction) 0 ≡ fullScore table storey direction
+  unfolding recordOf over
+  record-score =
+      List·getD-append (scores table) (drop (length (scores table)) noScores) 0 (scoreAt storey direction) (omega (arith, scores-length table))
+      ∙ score-listed
+
+-- The record that scoring answers, where the table is accepted.
+told-result : (outcome : Outcome) (result : Record) → toldOutcome outcome result .result ≡ result
+told-result Scored result = refl
+told-result (Refused number row column) result = refl
+
+pub record-told : (table : List ℕ) (a : Scoring) → judging table .number ≡ 0 → toldScoring a ≡ scoring table → a .result ≡ recordOf table
+unfolding scoring
+record-told table a h e =
+    sym (told-result (a .outcome) (a .result)) ∙ ap (λ (x : ToldScoring). x .result) e ∙ rw (eq-eqb (judging table .number) 0 h)
+
+-- The least of scores of which none is above those of another list.
+least-falls : (x y : List ℕ) → length x ≡ length y → ((i : ℕ) → i < length y → getD x i 0 ≤ getD y i 0) → leastOf x ≤ leastOf y
+unfolding leastOf
+least-falls [] [] long below = omega arith
+least-falls [] (b ∷ y) long below = absurd (omega arith)
+least-falls (a ∷ x) [] long below = absurd (omega arith)
+least-falls (a ∷ x) (b ∷ y) long below =
+    omega (arith, below 0 (omega arith), least-falls x y (omega arith) (λ i l. below (suc i) (omega arith)))
+
+-- The storey and direction of a place among the scores.
+stands-at : (table : List ℕ) (i : ℕ) → i < 2 * storeys table → Stands table (i / 2 + 1) (i % 2 + 1)
+stands-at table i inside =
+    record { some-storey = omega arith; last-storey = omega arith; some-direction = omega arith; last-direction = omega arith }
+
+lower-some : (table : List ℕ) → 0 < deterioration table .lower
+unfolding deterioration
+lower-some table = deterioration-bounded (present table) (marked table) (age table) .lower-positive
+
+module _ (A B : List ℕ) (w : Worse A B) where
+  a : Accepted A
+  a = accepted A (w .A-accepted)
+
+  b : Accepted B
+  b = accepted B (w .B-accepted)
+
+  -- What is the same in both: of every row a column that differs in none,
+  column-same : (row column : ℕ) → column < 8 → (eqb column 2 || eqb column 3 || eqb column 4 || eqb column 6) ≡ false → eqb column 2 ≡ false
+      → cell A row column ≡ cell B row column
+  unfolding mayDiffer
+  column-same row column inside house parts =
+      w .same row column inside (rw (house, parts, and-false (eqb row 0), and-false (eqb row (partsRow A))))
+
+  -- and every column of a row that is neither the house nor the parts.
+  row-same : (row column : ℕ) → (row ≡ 0 → ⊥) → (row ≡ partsRow A → ⊥) → column < 8 → cell A row column ≡ cell B row column
+  unfolding mayDiffer
+  row-same row column house parts inside = w .same row column inside (rw (ne-eqb row 0 house, ne-eqb row (partsRow A) parts))
+
+  kinds-same : (row : ℕ) → cell A row 0 ≡ cell B row 0
+  kinds-same row = column-same row 0 (omega arith) refl refl
+
+  numbers-same : (row : ℕ) → cell A row 1 ≡ cell B row 1
+  numbers-same row = column-same row 1 (omega arith) refl refl
+
+  storeys-same : storeys A ≡ storeys B
+  storeys-same = numbers-same 0
+
+  foundation-same : foundation A ≡ foundation B
+  foundation-same = column-same 0 5 (omega arith) refl refl
+
+  parts-row-same : partsRow A ≡ partsRow B
+  parts-row-same = parts-row-alike A B (w .rows) kinds-same numbers-same
+
+  present-same : present A ≡ present B
+  present-same = numbers-same (partsRow A) ∙ ap (λ (row : ℕ). cell B row 1) parts-row-same
+
+  -- A wall is neither the house nor the parts.
+  wall-same : (row column : ℕ) → cell A row 0 ≡ 4 → column < 8 → cell A row column ≡ cell B row column
+  wall-same row column wall inside =
+      row-same row column
+      (λ e. omega (arith, a .house-inside 0 (omega arith), rw e at wall))
+      (λ e. omega (arith, a .parts-inside 0 (omega arith), rw e at wall)) inside
+
+  walls-same : (storey : ℕ) → storeyWalls A storey ≡ storeyWalls B storey
+  walls-same storey = walls-alike A B (w .rows) kinds-same numbers-same (w .A-accepted) (w .B-accepted) wall-same storey
+
+  -- So a storey holds the same, and so do its ends.
+  share-same : (storey : ℕ) (walls : List ℕ) → share A storey walls ≡ share B storey walls
+  unfolding share
+  share-same storey walls = fun-ext (λ row. rw (storeys-same, foundation-same))
+
+  held-same : (storey direction : ℕ) → held A storey direction ≡ held B storey direction
+  unfolding held heldWhere
+  held-same storey direction = rw (walls-same storey, share-same storey (storeyWalls B storey))
+
+  end-held-same : (storey direction end : ℕ) → endHeld A storey direction end ≡ endHeld B storey direction end
+  unfolding endHeld heldWhere
+  end-held-same storey direction end = rw (walls-same storey, share-same storey (storeyWalls B storey))
+
+  -- The deterioration factor is no higher.
+  worn : deterioration B at-most deterioration A
+  unfolding deterioration within
+  worn =
+      rw (← present-same)
+      (deterioration-falls (present A) (marked A) (marked B) (eqb-true (bitAnd (marked A) (marked B)) (marked A) (w .marks)) (w .older))
+
+  module _ (storey direction : ℕ) (s : Stands A storey direction) where
+    storey-same : (column : ℕ) → column < 8 → cell A storey column ≡ cell B storey column
+    storey-same column inside = row-same storey column (λ e. omega arith) (λ e. omega arith) inside
+
+    floor-same : floor A storey ≡ floor B storey
+    unfolding floor
+    floor-same = rw (storey-same 4 (omega arith), storey-same 5 (omega arith))
+
+    floor-known : floor A storey ≤ 3
+    unfolding floor
+    floor-known = floor-most (cell A storey 5) (a .storey-inside storey (s .some-storey) (s .last-storey) 4 (omega arith) .1)
+
+    narrow-same : narrowFactor (storeys A) storey (cell A storey 3) ≡ narrowFactor (storeys B) storey (cell B storey 3)
+    narrow-same = rw (storeys-same, storey-same 3 (omega arith))
+
+    -- What is required of a part of the storey is no less.
+    required-of-rises : (parts area : ℕ) → storey ≤ parts → parts ≤ 3 → requiredOf A storey parts area ≤ requiredOf B storey parts area
+    unfolding requiredOf
+    required-of-rises parts area most few =
+        required-rises (s .some-storey) most few (a .house-inside 2 (omega arith) .0) (w .heavier) (b .house-inside 2 (omega arith) .1)
+        (le-refl area) (w .higher) (w .softer) (le-of-eq narrow-same)
+
+    storeys-few : storeys A ≤ 3
+    storeys-few = a .house-inside 1 (omega arith) .1
+
+    storey-required : required A storey ≤ required B storey
+    unfolding required
+    storey-required =
+        rw (← storeys-same, ← storey-same 2 (omega arith)) (required-of-rises (storeys A) (cell A storey 2) (s .last-storey) storeys-few)
+
+    required-some : 0 < required A storey
+    unfolding required requiredOf
+    required-some =
+        let class = a .house-inside 2 (omega arith) in
+        let area = a .storey-inside storey (s .some-storey) (s .last-storey) 2 (omega arith) in
+        let narrow = narrow-least (storeys A) storey (cell A storey 3) in
+        required-positive (ground A) (s .some-storey) (s .last-storey) storeys-few (class .0) (class .1)
+        (area .0) (omega (arith, accepted-zone a)) (omega (arith, narrow))
+
+    -- And of an end.
+    ends-same : (column : ℕ) → column < 8 → cell A (endsRow A storey direction) column ≡ cell B (endsRow B storey direction) column
+    ends-same column inside =
+        row-same (endsRow A storey direction) column (λ e. omega arith) (λ e. omega arith) inside ∙ rw storeys-same
+
+    part-storeys : (end : ℕ) → end < 2
+        → (storey ≤ cell A (endsRow A storey direction) (5 + end)) × (cell A (endsRow A storey direction) (5 + end) ≤ storeys A)
+    part-storeys end inside = go end inside
+      where
+        row : ℕ
+        row = endsRow A storey direction
+
+        ends : Inside (endsColumns A row) A row
+        ends = a .ends-inside row (omega arith) (omega arith)
+
+        due : endsStorey A row ≡ storey
+        due = ends-storey A storey direction (s .some-storey) (s .some-direction) (s .last-direction)
+
+        go : (end : ℕ) → end < 2 → (storey ≤ cell A row (5 + end)) × (cell A row (5 + end) ≤ storeys A)
+        go zero l = (omega (arith, ends 5 (omega arith), due), omega (arith, ends 5 (omega arith)))
+        go (suc zero) l = (omega (arith, ends 6 (omega arith), due), omega (arith, ends 6 (omega arith)))
+        go (suc (suc n)) l = absurd (omega arith)
+
+    end-required : (end : ℕ) → end < 2 → endRequired A storey direction end ≤ endRequired B storey direction end
+    unfolding endRequired
+    end-required end inside =
+        let known = part-storeys end inside in
+        let row = endsRow A storey direction in
+        rw (← ends-same (5 + end) (omega arith), ← ends-same (3 + end) (omega arith))
+        (required-of-rises (cell A row (5 + end)) (cell A row (3 + end)) (known .0) (omega (arith, known, storeys-few)))
+
+    -- The score before the layout factor is no higher.
+    before-falls : scoreBefore B storey direction ≤ scoreBefore A storey direction
+    unfolding scoreBefore
+    before-falls =
+        score-before-falls (deterioration A) (deterioration B) (le-of-eq (sym (held-same storey direction))) storey-required worn required-some
+        (lower-some A) (lower-some B)
+
+    -- Nor is the full score, where the higher band is kept.
+    full-falls : Kept A B storey direction → fullScore B storey direction ≤ fullScore A storey direction
+    unfolding fullScore layout endBand higherBand
+    full-falls kept =
+        let one = end-held-same storey direction endA in
+        let other = end-held-same storey direction endB in
+        rw (← held-same storey direction, ← one, ← other, ← floor-same)
+        (full-score-falls (held A storey direction) (endHeld A storey direction endA) (endHeld A storey direction endB)
+        (deterioration A) (deterioration B) storey-required (end-required endA (omega arith)) (end-required endB (omega arith)) floor-known worn
+        (rw (← one, ← other) at kept) required-some
+        (lower-some A) (lower-some B))
+
+  stands-both : {storey direction : ℕ} → Stands A storey direction → Stands B storey direction
+  stands-both s = record {
+    some-storey = s .some-storey;
+    last-storey = rw storeys-same at (s .last-storey);
+    some-direction = s .some-direction;
+    last-direction = s .last-direction;
+  }
+
+  -- Where all keep it, the least score is no higher, and the verdict no better.
+  module _ (kept : (storey direction : ℕ) → Stands A storey direction → Kept A B storey direction) where
+    listed-falls : (i : ℕ) → i < 2 * storeys A → getD (scores B) i 0 ≤ getD (scores A) i 0
+    listed-falls i inside =
+        let storey = i / 2 + 1 in
+        let direction = i % 2 + 1 in
+        let s = stands-at A i inside in
+        let place : scoreAt storey direction ≡ i = omega arith in
+        rw place at
+        (le-trans (le-of-eq (score-listed B storey direction (stands-both s)))
+        (le-trans (full-falls storey direction s (kept storey direction s)) (le-of-eq (sym (score-listed A storey direction s)))))
+
+    verdict-no-better : houseVerdict A ≤ houseVerdict B
+    unfolding houseVerdict leastScore
+    verdict-no-better =
+        verdict-rises
+        (least-falls (scores B) (scores A) (omega (arith, scores-length A, scores-length B, storeys-same))
+        (λ i l. listed-falls i (omega (arith, scores-length A))))
+
+  no-better : NoBetter A B
+  unfolding recordOf
+  no-better = record {
+    before = before-falls;
+    full = full-falls;
+    verdict = verdict-no-better;
+    record-full = λ x y ex ey storey direction s kept.
+        rw (record-told A x (w .A-accepted) ex, record-told B y (w .B-accepted) ey)
+        (rw (record-score A storey direction s, record-score B storey direction (stands-both s))
+        (full-falls storey direction s kept));
+    record-verdict = λ x y ex ey kept.
+        rw (record-told A x (w .A-accepted) ex, record-told B y (w .B-accepted) ey) (verdict-no-better kept);
+  }
+
+-- Demand 3: a house made worse is no better.
+pub comparison : (A B : List ℕ) → Worse A B → NoBetter A B
+comparison = no-better

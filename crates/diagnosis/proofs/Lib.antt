@@ -1,0 +1,9 @@
+-- The laws about a table's diagnosis, and the theorems.
+pub mod Standing
+pub mod Sums
+pub mod Within
+pub mod Listed
+pub mod Rows
+pub mod Written
+pub mod Comparing
+pub mod Examples

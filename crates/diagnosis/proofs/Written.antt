@@ -1,0 +1,91 @@
+-- The ways out of writing a report, and of diagnosing a sheet: the answer and the lent bytes in each. Assumes nothing.
+use mathlib.Core.Path.{_≡_, refl, sym, ap, _∙_}
+use mathlib.Core.Bool.{true, false}
+use mathlib.Core.List.{List}
+use Prim.Native.Nat.{ℕ, _-_, _*_, _<_, _≤_}
+use native.Mathlib.Nat.{sub-zero}
+use native.Mathlib.Omega.{arith}
+use lib.ListN.{length, take}
+use lib.Seq.{take-at}
+use borrow.Author.Tests.{eq-eqb, ne-eqb, lt-ltb, le-ltb}
+use Rattle.answer.specs.declared.Answer.{Answer}
+use Rattle.answer.specs.declared.Answer.the-variants.{Count, Refused}
+use Rattle.answer.specs.Told.{Told, told, counted, refusal, accepts, lent-space-short}
+use Rattle.answer.specs.Length.{rowsIn}
+use Rattle.sheet.specs.Sheet.{over, reading, afterReading}
+use Rattle.sheet.proofs.Lists.{over-length}
+use Rattle.sheet.proofs.Sheets.{numbers-length}
+use Rattle.sheet.proofs.Answers.{Readable, accepted-readable, readable-accepted, read-refused, read-accepted}
+use Rattle.survey.specs.Judgement.{judging}
+use Rattle.survey.proofs.Acceptance.{judge-refused}
+use Rattle.diagnosis.specs.Program.{mostNumbers, tableOf, diagnosing, afterDiagnosing}
+use Rattle.diagnosis.specs.Report.{reportLines, reportBytes, reporting, afterReporting}
+
+-- An answer to writing a table's report into lent bytes, and these afterwards.
+abbrev Reported : List ℕ → List ℕ → Told → List ℕ → Type 0
+Reported table lent answer after = (answer ≡ reporting table (length lent)) × (after ≡ afterReporting table lent)
+
+module _ (table lent : List ℕ) where
+  module _ (h : judging table .number ≡ 0) where
+    pub report-short : length lent < 65 * reportLines table → Reported table lent (refusal lent-space-short 0 0) lent
+    unfolding reporting afterReporting
+    report-short short = (rw (eq-eqb (judging table .number) 0 h, lt-ltb (length lent) (65 * reportLines table) short), rw (eq-eqb (judging table .number) 0 h, lt-ltb (length lent) (65 * reportLines table) short))
+
+    pub report-written : 65 * reportLines table ≤ length lent → Reported table lent (counted (65 * reportLines table)) (over lent (reportBytes table))
+    unfolding reporting afterReporting
+    report-written room = (rw (eq-eqb (judging table .number) 0 h, le-ltb (length lent) (65 * reportLines table) room), rw (eq-eqb (judging table .number) 0 h, le-ltb (length lent) (65 * reportLines table) room))
+
+  -- A table that is refused.
+  pub report-refused : {answer : Answer} {number row column : ℕ} → told answer ≡ judging table → answer ≡ Refused number row column
+      → Reported table lent (refusal number row column) lent
+  unfolding reporting afterReporting
+  report-refused judged e =
+      let refused = ne-eqb (judging table .number) 0 (judge-refused table judged e) in
+      (rw refused (sym (ap told e) ∙ judged), rw (refused, refused))
+
+-- An answer to diagnosing a sheet into lent bytes, and these afterwards.
+abbrev Diagnosed : List ℕ → List ℕ → Told → List ℕ → Type 0
+Diagnosed sheet lent answer after = (answer ≡ diagnosing sheet (length lent)) × (after ≡ afterDiagnosing sheet lent)
+
+module _ (sheet table lent : List ℕ) {answer : Answer} (long : length table ≡ mostNumbers) (read : told answer ≡ reading sheet (length table)) where
+  -- A sheet that cannot be read.
+  pub diagnose-refused : {number row column : ℕ} → answer ≡ Refused number row column → Diagnosed sheet lent (refusal number row column) lent
+  unfolding diagnosing afterDiagnosing
+  diagnose-refused e =
+      let refused = rw long at (read-refused sheet table read e) in
+      let told-so = rw long at read in
+      (rw refused (sym (ap told e) ∙ told-so), rw (refused, refused))
+
+  -- One that can: its rows are its table.
+  module _ {rows : ℕ} (e : answer ≡ Count rows) where
+    counts : reading sheet (length table) ≡ counted rows
+    counts = read-accepted sheet table read e
+
+    readable : Readable sheet (rowsIn 65 (length sheet)) × (8 * rowsIn 65 (length sheet) ≤ length table)
+    readable = accepted-readable sheet (length table) (ap (λ (t : Told). t .number) counts)
+
+    both : (counted (rowsIn 65 (length sheet)) ≡ reading sheet (length table)) × (over table (tableOf sheet) ≡ afterReading sheet table)
+    unfolding tableOf
+    both = readable-accepted sheet table (rowsIn 65 (length sheet)) (readable .0) (readable .1)
+
+    so-many : rows ≡ rowsIn 65 (length sheet)
+    so-many = ap (λ (t : Told). t .count) (sym (both .0 ∙ counts))
+
+    pub rows-fit : {filled : List ℕ} → filled ≡ afterReading sheet table → 8 * rows ≤ length filled
+    unfolding tableOf
+    rows-fit f =
+        let kept = over-length table (tableOf sheet) (omega (arith, numbers-length (8 * rowsIn 65 (length sheet)) sheet, readable .1)) in
+        rw (f, ← both .1, kept) (omega (arith, so-many, readable .1))
+
+    table-taken : {filled : List ℕ} → filled ≡ afterReading sheet table → take (8 * rows - 0) filled ≡ tableOf sheet
+    unfolding over tableOf
+    table-taken f = rw (f, ← both .1, so-many, sub-zero) (take-at (tableOf sheet) _ _ (numbers-length _ sheet))
+
+    pub diagnose-read : {filled after : List ℕ} {reported : Told} → filled ≡ afterReading sheet table
+        → reported ≡ reporting (take (8 * rows - 0) filled) (length lent) → after ≡ afterReporting (take (8 * rows - 0) filled) lent
+        → Diagnosed sheet lent reported after
+    unfolding diagnosing afterDiagnosing afterReporting
+    diagnose-read f r a =
+        let accepted : accepts (reading sheet mostNumbers) ≡ true = rw (← long, counts) in
+        let taken = table-taken f in
+        (r ∙ rw (taken, accepted), a ∙ rw (taken, accepted))

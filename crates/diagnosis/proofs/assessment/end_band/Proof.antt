@@ -1,0 +1,92 @@
+-- `diagnosis::assessment::end_band` meets its contract. Assumes nothing.
+use Rattle.diagnosis.proofs.Within.{band-is}
+use Rattle.diagnosis.proofs.Standing.{house-inside, ends-inside}
+use mathlib.Core.Path.{_≡_, _∙_}
+use Rattle.diagnosis.specs.House.{endRequired}
+use native.Mathlib.Omega.{arith}
+use Prim.Native.Nat.{_+_, _-_, _*_, _≤_}
+use lib.ListN.{length}
+use denote.Ref.{now}
+use borrow.Author.Needs.{needs}
+use Rattle.diagnosis.proofs.assessment.end_band.Statement.{statement}
+use Rattle.diagnosis.proofs.assessment.end_band.Tie as tie
+
+cell-requires : tie.Need-cell-requires
+cell-requires c κs = (house-inside _ (c .before .pre .0), omega arith)
+
+cast-storeys : tie.Need-cast-storeys
+cast-storeys c = search needs
+
+add-row : tie.Need-add-row
+add-row c = search needs
+
+sub-row : tie.Need-sub-row
+sub-row c = search needs
+
+mul-row : tie.Need-mul-row
+mul-row c = search needs
+
+add-row-2 : tie.Need-add-row-2
+add-row-2 c = search needs
+
+sub-row-2 : tie.Need-sub-row-2
+sub-row-2 c = search needs
+
+add-row-3 : tie.Need-add-row-3
+add-row-3 c = search needs
+
+add-cell : tie.Need-add-cell
+add-cell c = search needs
+
+ends-row-inside : (c : tie.After-cell) → 8 * (c .cell .result + 1 + 2 * (c .before .before .args .storey - 1) + (c .before .before .args .direction - 1)) + 8 ≤ length (now (c .before .before .args .table))
+ends-row-inside c =
+    let start = c .before .before in
+    rw (c .cell .ensures) (ends-inside _ (start .pre .0) (start .args .storey) (start .args .direction) (start .pre .1 .0 .1) (start .pre .1 .0 .0) (start .pre .1 .1 .0 .1))
+
+cell-requires-2 : tie.Need-cell-requires-2
+cell-requires-2 c κs = (ends-row-inside c, omega arith)
+
+add-cell-2 : tie.Need-add-cell-2
+add-cell-2 c = search needs
+
+cell-requires-3 : tie.Need-cell-requires-3
+cell-requires-3 c κs = (ends-row-inside (c .before), omega arith)
+
+required-of-requires : tie.Need-required-of-requires
+required-of-requires c κs = search needs
+
+band-requires : tie.Need-band-requires
+band-requires c κs = search needs
+
+-- What is required of the end, by its own columns.
+needs-end : (c : tie.After-required-of) → c .required-of .result ≡ endRequired (now (c .before .before .before .before .before .args .table)) (c .before .before .before .before .before .args .storey) (c .before .before .before .before .before .args .direction) (c .before .before .before .before .before .args .end)
+unfolding endRequired
+needs-end c =
+    let at-1 = c .before .before .before in
+    rw (← at-1 .cell .ensures, ← c .before .before .cell2 .ensures, ← c .before .cell3 .ensures) (c .required-of .ensures)
+
+returns : tie.Need-returns
+returns c =
+    let start = c .before .before .before .before .before .before in
+    let ends = start .pre .1 .1 .0 in
+    c .band .ensures ∙ rw (start .pre .1 .1 .1, needs-end (c .before)) (band-is _ (start .pre .0) _ _ (start .pre .1 .0 .0) (start .pre .1 .0 .1) (ends .0) (ends .1) _ (ends .2))
+
+pub end-band-spec : {M : Type 1} → statement M
+end-band-spec =
+    tie.close
+    (tie.spec
+    cell-requires
+    cast-storeys
+    add-row
+    sub-row
+    mul-row
+    add-row-2
+    sub-row-2
+    add-row-3
+    add-cell
+    cell-requires-2
+    add-cell-2
+    cell-requires-3
+    required-of-requires
+    band-requires
+    returns)

@@ -1,0 +1,23 @@
+-- `diagnosis::assessment::floor` meets its contract. Assumes nothing.
+use Rattle.diagnosis.proofs.Standing.{storey-inside}
+use Rattle.diagnosis.specs.House.{floor}
+use native.Mathlib.Omega.{arith}
+use borrow.Author.Needs.{needs}
+use Rattle.diagnosis.proofs.assessment.floor.Statement.{statement}
+use Rattle.diagnosis.proofs.assessment.floor.Tie as tie
+
+cell-requires : tie.Need-cell-requires
+cell-requires c κs = (storey-inside _ (c .before .pre .0) (c .before .pre .1 .1), omega arith)
+
+cell-requires-2 : tie.Need-cell-requires-2
+cell-requires-2 c κs = (storey-inside _ (c .before .before .pre .0) (c .before .before .pre .1 .1), omega arith)
+
+floor-type-requires : tie.Need-floor-type-requires
+floor-type-requires c κs = search needs
+
+returns : tie.Need-returns
+unfolding floor
+returns c = rw (← c .before .before .cell .ensures, ← c .before .cell2 .ensures) (c .floor-type .ensures)
+
+pub floor-spec : {M : Type 1} → statement M
+floor-spec = tie.close (tie.spec cell-requires cell-requires-2 floor-type-requires returns)

@@ -1,0 +1,39 @@
+-- `diagnosis::reports::report` meets its contract: the refusal of judging, or what an accepted table gets. Assumes nothing.
+use Rattle.diagnosis.proofs.Written.{report-refused}
+use Rattle.survey.proofs.Acceptance.{judge-accepted}
+use borrow.Author.Needs.{needs}
+use Rattle.diagnosis.proofs.reports.report.Statement.{statement}
+use Rattle.diagnosis.proofs.reports.report.Tie as tie
+
+judge-requires : tie.Need-judge-requires
+judge-requires c κs = search needs
+
+enum-known-number : tie.Need-enum-known-number
+enum-known-number c = search needs
+
+enum-told : tie.Need-enum-told
+enum-told c = search needs
+
+report-accepted-requires : tie.Need-report-accepted-requires
+report-accepted-requires c κs = judge-accepted _ (c .before .before .before .judge .ensures) (c .before .enum-told .given .1) .0
+
+returns : tie.Need-returns
+returns c = report-refused _ _ (c .before .before .before .judge .ensures) (c .before .number .given .1)
+
+same-length : tie.Need-same-length
+same-length c = search needs
+
+returns-2 : tie.Need-returns-2
+returns-2 c = search needs
+
+pub report-spec : {M : Type 1} → statement M
+report-spec =
+    tie.close
+    (tie.spec
+    judge-requires
+    enum-known-number
+    enum-told
+    report-accepted-requires
+    returns
+    same-length
+    returns-2)

@@ -1,0 +1,37 @@
+-- `diagnosis::scores::score` meets its contract: the refusal of judging, or the record. Assumes nothing.
+use Rattle.answer.specs.Told.{told}
+use mathlib.Core.Path.{sym, ap, _∙_}
+use Rattle.diagnosis.specs.Answers.{scoring}
+use borrow.Author.Tests.{eq-eqb, ne-eqb}
+use Rattle.survey.proofs.Acceptance.{judge-refused, judge-accepted}
+use borrow.Author.Needs.{needs}
+use Rattle.diagnosis.proofs.scores.score.Statement.{statement}
+use Rattle.diagnosis.proofs.scores.score.Tie as tie
+
+judge-requires : tie.Need-judge-requires
+judge-requires c κs = search needs
+
+enum-known-number : tie.Need-enum-known-number
+enum-known-number c = search needs
+
+enum-told : tie.Need-enum-told
+enum-told c = search needs
+
+record-of-requires : tie.Need-record-of-requires
+record-of-requires c κs = judge-accepted _ (c .before .before .judge .ensures) (c .enum-told .given .1) .0
+
+returns : tie.Need-returns
+unfolding scoring
+returns c =
+    let judged = c .before .before .before .judge .ensures in
+    let told-so = c .before .number .given .1 in
+    rw (ne-eqb _ 0 (judge-refused _ judged told-so), sym judged ∙ ap told told-so)
+
+returns-2 : tie.Need-returns-2
+unfolding scoring
+returns-2 c = rw (eq-eqb _ 0 (judge-accepted _ (c .before .before .before .judge .ensures) (c .before .enum-told .given .1) .0), c .record-of .ensures)
+
+pub score-spec : {M : Type 1} → statement M
+score-spec =
+    tie.close
+    (tie.spec judge-requires enum-known-number enum-told record-of-requires returns returns-2)

@@ -1,0 +1,49 @@
+-- `diagnosis::strengths::held_by` meets its contract. The loop's invariant: the sums are those over the walls before `row`. Assumes nothing.
+use Rattle.diagnosis.proofs.Sums.{no-walls, walls-short, held-within}
+use Rattle.diagnosis.proofs.Standing.{house-inside}
+use lib.ListN.{length}
+use denote.Ref.{now}
+use Rattle.diagnosis.specs.House.{heldBy}
+use native.Mathlib.Omega.{arith}
+use mathlib.Core.Path.{_≡_, ap, _∙_}
+use Prim.Native.Nat.{_≤_, _-_, _/_}
+use borrow.Author.Needs.{needs}
+use Rattle.diagnosis.proofs.strengths.held_by.Statement.{statement}
+use Rattle.diagnosis.proofs.strengths.held_by.Tie as tie
+
+abbrev Inv-loop : tie.InvT-loop
+Inv-loop table storey walls direction rows sums₀ row₀ sums row = (row ≤ rows) × (sums ≡ heldBy table storey walls direction row)
+
+abbrev μ-loop : tie.MeasureT-loop
+μ-loop table storey walls direction rows sums₀ row₀ sums row = rows - row
+
+loop-holds : tie.Need-loop-holds Inv-loop μ-loop
+loop-holds c = (search needs, no-walls _ _ _ _)
+
+with-wall-requires : tie.Need-with-wall-requires Inv-loop μ-loop
+with-wall-requires c κs =
+    let at-loop = c .before in
+    let start = at-loop .before .before .before in
+    let n = at-loop .loop .row in
+    let within = held-within _ (start .pre .0) (start .args .storey) (start .pre .1) in
+    let few : n ≤ length (now (start .args .walls)) / 8 = omega arith in
+    (house-inside _ (start .pre .0), ((omega arith, walls-short _ (start .pre .0) (start .args .storey) (start .pre .1) n (omega arith)), ((rw (at-loop .loop .inv .1) (within _ n few), rw (at-loop .loop .inv .1) (within _ n few), rw (at-loop .loop .inv .1) (within _ n few)), at-loop .loop .inv .1)))
+
+add-row : tie.Need-add-row Inv-loop μ-loop
+add-row c = search needs
+
+loop-less : tie.Need-loop-less Inv-loop μ-loop
+loop-less c = search needs
+
+loop-again : tie.Need-loop-again Inv-loop μ-loop
+loop-again c = (search needs, c .with-wall .ensures)
+
+returns : tie.Need-returns Inv-loop μ-loop
+returns c =
+    let all : c .before .loop .row ≡ length (now (c .before .before .before .before .args .walls)) / 8 = omega arith in
+    c .before .loop .inv .1 ∙ ap (heldBy _ _ _ _) all
+
+pub held-by-spec : {M : Type 1} → statement M
+held-by-spec =
+    tie.close
+    (tie.spec Inv-loop μ-loop loop-holds with-wall-requires add-row loop-less loop-again returns)

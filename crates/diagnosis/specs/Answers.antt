@@ -1,0 +1,47 @@
+-- What scoring answers. Document 01: "scoring has its record in place of the count, all 0 when refused"; "The library answers with a record of
+-- up to six scores with the verdict."
+use mathlib.Core.Bool.{cond}
+use mathlib.Core.List.{List, [], _∷_}
+use Prim.Native.Nat.{ℕ, _*_}
+use Rattle.answer.specs.Told.{Told, accepts}
+use Rattle.sheet.specs.Sheet.{over}
+use Rattle.survey.specs.Table.{storeys}
+use Rattle.survey.specs.Judgement.{judging}
+use Rattle.diagnosis.specs.declared.scores.Outcome.{Outcome}
+use Rattle.diagnosis.specs.declared.scores.Outcome.the-variants.{Scored, Refused}
+use Rattle.diagnosis.specs.declared.scores.Record.{Record}
+use Rattle.diagnosis.specs.declared.scores.Scoring.{Scoring}
+use Rattle.diagnosis.specs.House.{scores, houseVerdict}
+
+-- The paper's values: a refusal's number (0 where the table is scored), its row and column, and the record.
+pub record ToldScoring : Type 0 where
+  pub number : ℕ
+  pub row : ℕ
+  pub column : ℕ
+  pub result : Record
+
+-- The paper's number and values for each case of the code's enum, and the record beside it.
+abbrev pub toldOutcome : Outcome → Record → ToldScoring
+toldOutcome Scored result = record { number = 0; row = 0; column = 0; result = result }
+toldOutcome (Refused number row column) result = record { number = number; row = row; column = column; result = result }
+
+abbrev pub toldScoring : Scoring → ToldScoring
+toldScoring answer = toldOutcome (answer .outcome) (answer .result)
+
+-- Six places for scores.
+abbrev pub noScores : List ℕ
+noScores = 0 ∷ 0 ∷ 0 ∷ 0 ∷ 0 ∷ 0 ∷ []
+
+-- "all 0 when refused".
+abbrev pub noRecord : Record
+noRecord = record { scores = noScores; count = 0; verdict = 0 }
+
+-- The record of a house: its scores from the front of the six places, their count and the verdict.
+unfoldable pub recordOf : List ℕ → Record
+recordOf table = record { scores = over noScores (scores table); count = 2 * storeys table; verdict = houseVerdict table }
+
+-- The answer of scoring a table: the refusal of judging it, or its record.
+unfoldable pub scoring : List ℕ → ToldScoring
+scoring table =
+    let judged = judging table in
+    cond (accepts judged) (toldOutcome Scored (recordOf table)) (toldOutcome (Refused (judged .number) (judged .row) (judged .column)) noRecord)

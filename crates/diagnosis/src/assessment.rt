@@ -1,0 +1,122 @@
+// What is worked out of a storey and direction.
+use crate::numbers::cell;
+use crate::strengths::held_by;
+use crate::strengths::required_of;
+use answer::ROW;
+use method::Fraction;
+use method::band;
+use method::deterioration_factor;
+use method::floor_type;
+use method::layout_factor;
+use method::score;
+use survey::storey_run;
+ghost use mathlib.Core.Path.{_≡_};
+ghost use Prim.Native.Nat.{_≤_};
+ghost use Rattle.survey.specs.Table.{storeys};
+ghost use Rattle.survey.specs.Judgement.{judging};
+ghost use Rattle.survey.specs.Walls.{storeyWalls};
+ghost use Rattle.diagnosis.specs.House.{endHeld, required, endBand, floor, deterioration, assessment};
+
+// Held strength in 0.000001 kN, required strength in 0.000000001 kN, layout factor in hundredths, score.
+pub struct Assessment {
+    pub held: u64,
+    pub required: u64,
+    pub layout: u8,
+    pub score: u32,
+}
+
+// A storey in both directions.
+pub struct Storey {
+    pub x: Assessment,
+    pub y: Assessment,
+}
+
+// What is required of a storey.
+fn storey_required(table: &[u32], storey: usize) -> u64
+    requires { ⌜ judging (now table) .number ≡ 0 ⌝ }
+    requires { ⌜ (1 ≤ storey) × (storey ≤ storeys (now table)) ⌝ }
+    ensures { λ r. ⌜ r ≡ required (now (table .entry)) storey ⌝ }
+{
+    required_of(table, storey, cell(table, 0, 1), cell(table, storey, 2))
+}
+
+// The band of an end, 0 for end a and 1 for end b, whose solid walls hold so much.
+fn end_band(table: &[u32], storey: usize, direction: usize, end: usize, holds: u64) -> u32
+    requires { ⌜ judging (now table) .number ≡ 0 ⌝ }
+    requires { ⌜ (1 ≤ storey) × (storey ≤ storeys (now table)) ⌝ }
+    requires { ⌜ (1 ≤ direction) × (direction ≤ 2) × (end ≤ 1) ⌝ }
+    requires { ⌜ holds ≡ endHeld (now table) storey direction end ⌝ }
+    ensures { λ r. ⌜ r ≡ endBand (now (table .entry)) storey direction end ⌝ }
+{
+    let storeys = cell(table, 0, 1) as usize;
+    let row = storeys + 1 + 2 * (storey - 1) + (direction - 1);
+    let part = cell(table, row, 5 + end);
+    let area = cell(table, row, 3 + end);
+    band(holds, required_of(table, storey, part, area))
+}
+
+// A storey's floor type, a void taken into account.
+fn floor(table: &[u32], storey: usize) -> u32
+    requires { ⌜ judging (now table) .number ≡ 0 ⌝ }
+    requires { ⌜ (1 ≤ storey) × (storey ≤ storeys (now table)) ⌝ }
+    ensures { λ r. ⌜ r ≡ floor (now (table .entry)) storey ⌝ }
+{
+    floor_type(cell(table, storey, 4), cell(table, storey, 5))
+}
+
+// The house's deterioration factor. The parts row is the last.
+pub(crate) fn deterioration(table: &[u32]) -> Fraction
+    requires { ⌜ judging (now table) .number ≡ 0 ⌝ }
+    ensures { λ r. ⌜ r ≡ deterioration (now (table .entry)) ⌝ }
+{
+    let parts = table.len() / ROW - 1;
+    deterioration_factor(
+        cell(table, parts, 1),
+        cell(table, parts, 2),
+        cell(table, 0, 6),
+    )
+}
+
+// One direction of a storey. `walls` are the storey's, and `factor` is the house's deterioration factor.
+fn assess(
+    table: &[u32],
+    walls: &[u32],
+    factor: Fraction,
+    storey: usize,
+    direction: usize,
+) -> Assessment
+    requires { ⌜ judging (now table) .number ≡ 0 ⌝ }
+    requires { ⌜ now walls ≡ storeyWalls (now table) storey ⌝ }
+    requires { ⌜ factor ≡ deterioration (now table) ⌝ }
+    requires { ⌜ (1 ≤ storey) × (storey ≤ storeys (now table)) ⌝ }
+    requires { ⌜ (1 ≤ direction) × (direction ≤ 2) ⌝ }
+    ensures { λ r. ⌜ r ≡ assessment (now (table .entry)) storey direction ⌝ }
+{
+    let sums = held_by(table, storey as u32, walls, direction as u32);
+    let held = sums.all;
+    let required = storey_required(table, storey);
+    let one = end_band(table, storey, direction, 0, sums.a);
+    let other = end_band(table, storey, direction, 1, sums.b);
+    let layout = layout_factor(one, other, floor(table, storey));
+    let score = score(held, required, layout, factor);
+    Assessment {
+        held,
+        required,
+        layout,
+        score,
+    }
+}
+
+// Both directions of a storey, from that storey's part of the table.
+pub(crate) fn assess_storey(table: &[u32], factor: Fraction, storey: usize) -> Storey
+    requires { ⌜ judging (now table) .number ≡ 0 ⌝ }
+    requires { ⌜ factor ≡ deterioration (now table) ⌝ }
+    requires { ⌜ (1 ≤ storey) × (storey ≤ storeys (now table)) ⌝ }
+    ensures { λ r. ⌜ r .x ≡ assessment (now (table .entry)) storey 1 ⌝ }
+    ensures { λ r. ⌜ r .y ≡ assessment (now (table .entry)) storey 2 ⌝ }
+{
+    let walls = storey_run(table, storey as u32);
+    let x = assess(table, walls, factor, storey, 1);
+    let y = assess(table, walls, factor, storey, 2);
+    Storey { x, y }
+}

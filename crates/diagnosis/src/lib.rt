@@ -1,0 +1,22 @@
+// Scoring a table, its report, and the whole program on slices.
+//
+// Uses `answer`, `sheet`, `survey` and `method`. Document 01, "Held strength" to "Score and verdict", of
+// a table's house; the definitions stand in specs/House.antt, Answers.antt, Report.antt and
+// Program.antt, in that order. Strengths and assessment work out a storey and direction by `method`'s
+// functions; scores, reports and program are what callers call. A table is judged once, by `survey`,
+// before any number of it is used. The comparison of two houses is stated in specs/Comparison.antt and
+// proved in proofs/Comparing.antt.
+mod assessment;
+mod numbers;
+mod program;
+mod reports;
+mod scores;
+mod strengths;
+
+pub use program::diagnose;
+pub use reports::refusal_line;
+pub use reports::report;
+pub use scores::Outcome;
+pub use scores::Record;
+pub use scores::Scoring;
+pub use scores::score;

@@ -1,0 +1,123 @@
+// What a storey holds in a direction, whole and at each end, and what is required of it.
+use crate::numbers::cell;
+use answer::ROW;
+use method::narrow_factor;
+use method::required_strength;
+use method::wall_share;
+ghost use mathlib.Core.Path.{_≡_};
+ghost use Prim.Native.Nat.{_≤_, _+_, _*_, _/_};
+ghost use lib.ListN.{length};
+ghost use Rattle.method.specs.Held.{mostHeld};
+ghost use Rattle.survey.specs.Table.{cell, storeys};
+ghost use Rattle.survey.specs.Judgement.{judging};
+ghost use Rattle.survey.specs.Walls.{storeyWalls};
+ghost use Rattle.diagnosis.specs.House.{share, heldBy, requiredOf};
+
+// What walls of a storey and direction hold: all of them, and the solid ones at ends a and b.
+pub struct Held {
+    pub all: u64,
+    pub a: u64,
+    pub b: u64,
+}
+
+// What a wall counts, by its row among its storey's walls.
+fn share(table: &[u32], storey: u32, walls: &[u32], row: usize) -> u64
+    requires { ⌜ 8 ≤ length (now table) ⌝ }
+    requires { ⌜ 8 * row + 8 ≤ length (now walls) ⌝ }
+    ensures { λ r. ⌜ r ≡ share (now (table .entry)) storey (now (walls .entry)) row ⌝ }
+{
+    wall_share(
+        cell(table, 0, 1),
+        storey,
+        cell(table, 0, 5),
+        cell(walls, row, 7),
+        cell(walls, row, 6),
+        cell(walls, row, 4),
+        cell(walls, row, 5),
+    )
+}
+
+// The sums with one wall more. Openings count towards the whole alone.
+fn with_wall(
+    table: &[u32],
+    storey: u32,
+    walls: &[u32],
+    direction: u32,
+    row: usize,
+    sums: Held,
+) -> Held
+    requires { ⌜ 8 ≤ length (now table) ⌝ }
+    requires { ⌜ (8 * row + 8 ≤ length (now walls)) × (cell (now walls) row 5 ≤ 20000) ⌝ }
+    requires { ⌜ (sums .all ≤ mostHeld) × (sums .a ≤ mostHeld) × (sums .b ≤ mostHeld) ⌝ }
+    requires { ⌜ sums ≡ heldBy (now table) storey (now walls) direction row ⌝ }
+    ensures { λ r. ⌜ r ≡ heldBy (now (table .entry)) storey (now (walls .entry)) direction (row + 1) ⌝ }
+{
+    if cell(walls, row, 2) != direction {
+        return sums;
+    }
+    let counted = share(table, storey, walls, row);
+    let all = sums.all + counted;
+    if cell(walls, row, 7) != 1 {
+        return Held {
+            all,
+            a: sums.a,
+            b: sums.b,
+        };
+    }
+    let place = cell(walls, row, 3);
+    if place == 1 {
+        return Held {
+            all,
+            a: sums.a + counted,
+            b: sums.b,
+        };
+    }
+    if place == 3 {
+        return Held {
+            all,
+            a: sums.a,
+            b: sums.b + counted,
+        };
+    }
+    Held {
+        all,
+        a: sums.a,
+        b: sums.b,
+    }
+}
+
+// What the walls of a storey hold in a direction.
+pub(crate) fn held_by(table: &[u32], storey: u32, walls: &[u32], direction: u32) -> Held
+    requires { ⌜ judging (now table) .number ≡ 0 ⌝ }
+    requires { ⌜ now walls ≡ storeyWalls (now table) storey ⌝ }
+    ensures { λ r. ⌜ r ≡ heldBy (now (table .entry)) storey (now (walls .entry)) direction (length (now (walls .entry)) / 8) ⌝ }
+{
+    let rows = walls.len() / ROW;
+    let mut sums = Held { all: 0, a: 0, b: 0 };
+    let mut row = 0;
+    while row < rows {
+        sums = with_wall(table, storey, walls, direction, row, sums);
+        row += 1;
+    }
+    sums
+}
+
+// What is required of a part of a storey, by the storeys of that part and its area.
+pub(crate) fn required_of(table: &[u32], storey: usize, part: u32, area: u32) -> u64
+    requires { ⌜ judging (now table) .number ≡ 0 ⌝ }
+    requires { ⌜ (1 ≤ storey) × (storey ≤ storeys (now table)) ⌝ }
+    ensures { λ r. ⌜ r ≡ requiredOf (now (table .entry)) storey part area ⌝ }
+{
+    let number = storey as u32;
+    let narrow = narrow_factor(cell(table, 0, 1), number, cell(table, storey, 3));
+    let zone = cell(table, 0, 3) as u8;
+    required_strength(
+        part,
+        number,
+        cell(table, 0, 2),
+        area,
+        zone,
+        cell(table, 0, 4),
+        narrow,
+    )
+}
