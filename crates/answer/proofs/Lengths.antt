@@ -31,6 +31,16 @@ unfolding rowsIn
 rows-counted unit {n} {rows} e some most =
     rw (← e, mul-mod-right, mul-div-cancel-left rows some, le-leb rows mostRows most)
 
+-- No length holds more rows than are allowed.
+pub rows-most : (unit n : ℕ) → rowsIn unit n ≤ mostRows
+unfolding rowsIn
+rows-most unit n = go (eqb (n % unit) 0) (leb (n / unit) mostRows) refl
+  where
+    go : (b d : Bool) → leb (n / unit) mostRows ≡ d → cond b (cond d (n / unit) 0) 0 ≤ mostRows
+    go true true e = leb-true (n / unit) mostRows e
+    go true false e = omega arith
+    go false d e = omega arith
+
 -- A unit of nothing makes no row.
 pub rows-zero : (n : ℕ) → rowsIn 0 n ≡ 0
 unfolding rowsIn

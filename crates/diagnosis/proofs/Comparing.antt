@@ -1,89 +1,31 @@
 -- Demand 3: a house made worse scores no better. Assumes nothing.
 use mathlib.Core.Path.{_≡_, refl, sym, ap, fun-ext, _∙_}
 use mathlib.Core.Bool.{false, _||_, and-false}
-use mathlib.Core.List.{List, [], _∷_}
+use mathlib.Core.List.{List}
 use Prim.Native.Nat.{ℕ, zero, suc, _+_, _-_, _*_, _/_, _%_, _<_, _≤_}
 use native.Mathlib.Nat.{le-refl, le-trans, le-of-eq}
 use native.Mathlib.Omega.{arith}
 use lib.Dec.{eqb}
 use lib.Bits.{bitAnd}
-use lib.ListN.{length, getD, drop, List·getD-append}
-use borrow.Author.Tests.{eq-eqb, ne-eqb, eqb-true}
-use Rattle.sheet.specs.Sheet.{over}
-use Rattle.sheet.proofs.Lists.{joined-length, joined-part, part-at}
+use lib.ListN.{getD}
+use borrow.Author.Tests.{ne-eqb, eqb-true}
 use Rattle.survey.specs.Table.{cell, storeys, endsRow, endsStorey, partsRow}
 use Rattle.survey.specs.Ranges.{endsColumns}
-use Rattle.survey.specs.Judgement.{judging, within}
+use Rattle.survey.specs.Judgement.{within}
 use Rattle.survey.specs.Walls.{storeyWalls}
 use Rattle.survey.proofs.Acceptance.{Accepted, accepted, accepted-zone}
 use Rattle.survey.proofs.Inside.{Inside}
 use Rattle.survey.proofs.Positions.{ends-storey}
 use Rattle.survey.proofs.Alike.{parts-row-alike, walls-alike}
+use Rattle.method.specs.Required.{narrowFactor}
 use Rattle.method.proofs.Requirements.{narrow-least, required-rises, required-positive}
 use Rattle.method.proofs.Bands.{floor-most}
 use Rattle.method.proofs.Fractions.{_at-most_, deterioration-bounded, deterioration-falls}
 use Rattle.method.proofs.Comparisons.{score-before-falls, full-score-falls, verdict-rises}
-use Rattle.method.specs.Required.{narrowFactor}
-use Rattle.diagnosis.specs.declared.scores.Outcome.{Outcome}
-use Rattle.diagnosis.specs.declared.scores.Outcome.the-variants.{Scored, Refused}
-use Rattle.diagnosis.specs.declared.scores.Record.{Record}
-use Rattle.diagnosis.specs.declared.scores.Scoring.{Scoring}
-use Rattle.diagnosis.specs.House.{ground, foundation, present, marked, age, endA, endB, share, heldWhere, held, endHeld, requiredOf, required, endRequired, endBand, higherBand, floor, layout, deterioration, scoreBefore, fullScore, storeyScores, scores, leastOf, leastScore, houseVerdict}
-use Rattle.diagnosis.specs.Answers.{ToldScoring, toldOutcome, toldScoring, noScores, recordOf, scoring}
+use Rattle.diagnosis.specs.House.{ground, foundation, present, marked, age, endA, endB, share, heldWhere, held, endHeld, requiredOf, required, endRequired, endBand, higherBand, floor, layout, deterioration, scoreBefore, fullScore, scores, leastScore, houseVerdict}
+use Rattle.diagnosis.specs.Answers.{recordOf}
 use Rattle.diagnosis.specs.Comparison.{mayDiffer, Worse, Stands, Kept, scoreAt, NoBetter}
-
--- The scores of a house, two a storey.
-pub scores-length : (table : List ℕ) → length (scores table) ≡ 2 * storeys table
-unfolding scores
-scores-length table = joined-length 2 (λ below. storeyScores table (below + 1)) (λ i. refl) (storeys table)
-
-two-listed : (f : ℕ → ℕ) (direction : ℕ) → 1 ≤ direction → direction ≤ 2 → getD (f 1 ∷ f 2 ∷ []) (direction - 1) 0 ≡ f direction
-two-listed f zero some most = absurd (omega arith)
-two-listed f (suc zero) some most = refl
-two-listed f (suc (suc zero)) some most = refl
-two-listed f (suc (suc (suc n))) some most = absurd (omega arith)
-
-module _ (table : List ℕ) (storey direction : ℕ) (s : Stands table storey direction) where
-  -- Among them, the score of a storey and direction.
-  pub score-listed : getD (scores table) (scoreAt storey direction) 0 ≡ fullScore table storey direction
-  unfolding scores
-  score-listed =
-      let next : storey - 1 + 1 ≡ storey = omega arith in
-      sym (part-at 2 (storey - 1) (scores table) (direction - 1) (omega arith))
-      ∙ ap (λ (p : List ℕ). getD p (direction - 1) 0)
-      (joined-part 2 (λ below. storeyScores table (below + 1)) (λ i. refl) (storeys table) (storey - 1) (omega arith))
-      ∙ rw next (two-listed (fullScore table storey) direction (s .some-direction) (s .last-direction))
-
-  -- And in the house's record.
-  pub record-score : getD (recordOf table .scores) (scoreAt storey direction) 0 ≡ fullScore table storey direction
-  unfolding recordOf over
-  record-score =
-      List·getD-append (scores table) (drop (length (scores table)) noScores) 0 (scoreAt storey direction) (omega (arith, scores-length table))
-      ∙ score-listed
-
--- The record that scoring answers, where the table is accepted.
-told-result : (outcome : Outcome) (result : Record) → toldOutcome outcome result .result ≡ result
-told-result Scored result = refl
-told-result (Refused number row column) result = refl
-
-pub record-told : (table : List ℕ) (a : Scoring) → judging table .number ≡ 0 → toldScoring a ≡ scoring table → a .result ≡ recordOf table
-unfolding scoring
-record-told table a h e =
-    sym (told-result (a .outcome) (a .result)) ∙ ap (λ (x : ToldScoring). x .result) e ∙ rw (eq-eqb (judging table .number) 0 h)
-
--- The least of scores of which none is above those of another list.
-least-falls : (x y : List ℕ) → length x ≡ length y → ((i : ℕ) → i < length y → getD x i 0 ≤ getD y i 0) → leastOf x ≤ leastOf y
-unfolding leastOf
-least-falls [] [] long below = omega arith
-least-falls [] (b ∷ y) long below = absurd (omega arith)
-least-falls (a ∷ x) [] long below = absurd (omega arith)
-least-falls (a ∷ x) (b ∷ y) long below =
-    omega (arith, below 0 (omega arith), least-falls x y (omega arith) (λ i l. below (suc i) (omega arith)))
-
--- The storey and direction of a place among the scores.
-stands-at : (table : List ℕ) (i : ℕ) → i < 2 * storeys table → Stands table (i / 2 + 1) (i % 2 + 1)
-stands-at table i inside =
-    record { some-storey = omega arith; last-storey = omega arith; some-direction = omega arith; last-direction = omega arith }
+use Rattle.diagnosis.proofs.Listed.{scores-length, score-at, record-score, record-told, least-falls, stands-at}
 
 lower-some : (table : List ℕ) → 0 < deterioration table .lower
 unfolding deterioration
@@ -257,13 +199,9 @@ module _ (A B : List ℕ) (w : Worse A B) where
   module _ (kept : (storey direction : ℕ) → Stands A storey direction → Kept A B storey direction) where
     listed-falls : (i : ℕ) → i < 2 * storeys A → getD (scores B) i 0 ≤ getD (scores A) i 0
     listed-falls i inside =
-        let storey = i / 2 + 1 in
-        let direction = i % 2 + 1 in
         let s = stands-at A i inside in
-        let place : scoreAt storey direction ≡ i = omega arith in
-        rw place at
-        (le-trans (le-of-eq (score-listed B storey direction (stands-both s)))
-        (le-trans (full-falls storey direction s (kept storey direction s)) (le-of-eq (sym (score-listed A storey direction s)))))
+        rw (score-at A i inside, score-at B i (omega (arith, storeys-same)))
+        (full-falls (i / 2 + 1) (i % 2 + 1) s (kept (i / 2 + 1) (i % 2 + 1) s))
 
     verdict-no-better : houseVerdict A ≤ houseVerdict B
     unfolding houseVerdict leastScore

@@ -4,6 +4,8 @@ pub mod Sums
 pub mod Within
 pub mod Listed
 pub mod Rows
+pub mod Printed
 pub mod Written
 pub mod Comparing
 pub mod Examples
+pub mod Pairs

@@ -1,15 +1,26 @@
--- The scores of a house, storey by storey: one storey more, and the least of them. Assumes nothing.
+-- The scores of a house as they are listed: storey by storey, in the record, and the least of them. Assumes nothing.
 use mathlib.Core.Path.{_≡_, refl, sym, ap, _∙_}
 use mathlib.Core.List.{List, [], _∷_, _++_, append-assoc}
-use Prim.Native.Nat.{ℕ, _+_, _*_, _<_, min}
+use Prim.Native.Nat.{ℕ, _+_, _*_, _<_, min, zero, suc, _-_, _/_, _%_, _≤_}
 use native.Mathlib.Numerals.{add-one}
+use native.Mathlib.Decide.{decLt}
 use native.Mathlib.Omega.{arith}
-use lib.ListN.{length, set, length-append}
+use lib.ListN.{length, set, length-append, getD, drop, List·getD-append}
+use borrow.Author.Tests.{eq-eqb}
 use Rattle.sheet.specs.Line.{joined}
 use Rattle.sheet.specs.Sheet.{over}
-use Rattle.sheet.proofs.Lists.{over-set, joined-length}
-use Rattle.diagnosis.specs.House.{fullScore, storeyScores, leastOf}
-use Rattle.diagnosis.specs.Answers.{noScores}
+use Rattle.sheet.proofs.Lists.{over-set, joined-length, joined-part, part-at}
+use Rattle.survey.specs.Table.{storeys}
+use Rattle.survey.specs.Judgement.{judging}
+use Rattle.method.proofs.Comparisons.{score-most}
+use Rattle.diagnosis.specs.declared.scores.Outcome.{Outcome}
+use Rattle.diagnosis.specs.declared.scores.Outcome.the-variants.{Scored, Refused}
+use Rattle.diagnosis.specs.declared.scores.Record.{Record}
+use Rattle.diagnosis.specs.declared.scores.Scoring.{Scoring}
+use Rattle.diagnosis.specs.House.{held, required, layout, deterioration, fullScore, storeyScores, scores, leastOf, leastScore}
+use Rattle.diagnosis.specs.Answers.{noScores, ToldScoring, toldOutcome, toldScoring, recordOf, scoring}
+use Rattle.diagnosis.specs.Comparison.{Stands, scoreAt}
+use Rattle.diagnosis.proofs.Standing.{storeys-few}
 
 -- The least of some scores, and of two more.
 pub least-more : (some : List ℕ) (x y : ℕ) → min (leastOf some) (min x y) ≡ leastOf (some ++ x ∷ y ∷ [])
@@ -35,3 +46,102 @@ module _ (table : List ℕ) (below : ℕ) {x y : ℕ} (x-is : x ≡ fullScore ta
 
   pub least-score-more : {least : ℕ} → least ≡ leastOf (scoresOf table below) → min least (min x y) ≡ leastOf (scoresOf table (below + 1))
   least-score-more e = rw e (least-more (scoresOf table below) x y ∙ ap leastOf one-more)
+
+-- Two scores a storey.
+pub scores-length : (table : List ℕ) → length (scores table) ≡ 2 * storeys table
+unfolding scores
+scores-length table = joined-length 2 (λ below. storeyScores table (below + 1)) (λ i. refl) (storeys table)
+
+two-listed : (f : ℕ → ℕ) (direction : ℕ) → 1 ≤ direction → direction ≤ 2 → getD (f 1 ∷ f 2 ∷ []) (direction - 1) 0 ≡ f direction
+two-listed f zero some most = absurd (omega arith)
+two-listed f (suc zero) some most = refl
+two-listed f (suc (suc zero)) some most = refl
+two-listed f (suc (suc (suc n))) some most = absurd (omega arith)
+
+module _ (table : List ℕ) (storey direction : ℕ) (s : Stands table storey direction) where
+  -- Among them, the score of a storey and direction.
+  pub score-listed : getD (scores table) (scoreAt storey direction) 0 ≡ fullScore table storey direction
+  unfolding scores
+  score-listed =
+      let next : storey - 1 + 1 ≡ storey = omega arith in
+      sym (part-at 2 (storey - 1) (scores table) (direction - 1) (omega arith))
+      ∙ ap (λ (p : List ℕ). getD p (direction - 1) 0)
+      (joined-part 2 (λ below. storeyScores table (below + 1)) (λ i. refl) (storeys table) (storey - 1) (omega arith))
+      ∙ rw next (two-listed (fullScore table storey) direction (s .some-direction) (s .last-direction))
+
+  -- And in the house's record.
+  pub record-score : getD (recordOf table .scores) (scoreAt storey direction) 0 ≡ fullScore table storey direction
+  unfolding recordOf over
+  record-score =
+      List·getD-append (scores table) (drop (length (scores table)) noScores) 0 (scoreAt storey direction) (omega (arith, scores-length table))
+      ∙ score-listed
+
+-- The record that scoring answers, where the table is accepted.
+told-result : (outcome : Outcome) (result : Record) → toldOutcome outcome result .result ≡ result
+told-result Scored result = refl
+told-result (Refused number row column) result = refl
+
+pub record-told : (table : List ℕ) (a : Scoring) → judging table .number ≡ 0 → toldScoring a ≡ scoring table → a .result ≡ recordOf table
+unfolding scoring
+record-told table a h e =
+    sym (told-result (a .outcome) (a .result)) ∙ ap (λ (x : ToldScoring). x .result) e ∙ rw (eq-eqb (judging table .number) 0 h)
+
+-- The storey and direction of a place among the scores.
+pub stands-at : (table : List ℕ) (i : ℕ) → i < 2 * storeys table → Stands table (i / 2 + 1) (i % 2 + 1)
+stands-at table i inside =
+    record { some-storey = omega arith; last-storey = omega arith; some-direction = omega arith; last-direction = omega arith }
+
+-- The least of scores of which none is above those of another list.
+pub least-falls : (x y : List ℕ) → length x ≡ length y → ((i : ℕ) → i < length y → getD x i 0 ≤ getD y i 0) → leastOf x ≤ leastOf y
+unfolding leastOf
+least-falls [] [] long below = omega arith
+least-falls [] (b ∷ y) long below = absurd (omega arith)
+least-falls (a ∷ x) [] long below = absurd (omega arith)
+least-falls (a ∷ x) (b ∷ y) long below =
+    omega (arith, below 0 (omega arith), least-falls x y (omega arith) (λ i l. below (suc i) (omega arith)))
+
+-- The least is at most each of them, and is one of them where none is above 999.
+pub least-at-most : (some : List ℕ) (i : ℕ) → i < length some → leastOf some ≤ getD some i 0
+unfolding leastOf
+least-at-most [] i inside = absurd (omega arith)
+least-at-most (one ∷ others) zero inside = omega arith
+least-at-most (one ∷ others) (suc i) inside = omega (arith, least-at-most others i (omega arith))
+
+abbrev Found : List ℕ → ℕ → Type 0
+Found some least = (i : ℕ) × (i < length some) × (least ≡ getD some i 0)
+
+pub least-listed : (some : List ℕ) → 0 < length some → ((i : ℕ) → i < length some → getD some i 0 ≤ 999) → Found some (leastOf some)
+unfolding leastOf
+least-listed [] any small = absurd (omega arith)
+least-listed (one ∷ []) any small = (0, omega arith, omega (arith, small 0 (omega arith)))
+least-listed (one ∷ other ∷ others) any small =
+    go (decLt one (leastOf (other ∷ others))) (least-listed (other ∷ others) (omega arith) (λ i l. small (suc i) (omega arith)))
+  where
+    go : Dec (one < leastOf (other ∷ others)) → Found (other ∷ others) (leastOf (other ∷ others))
+        → Found (one ∷ other ∷ others) (min one (leastOf (other ∷ others)))
+    go (yes first) found = (0, omega arith, omega arith)
+    go (no later) found = (suc (found .0), omega (arith, found .1), omega (arith, found .2))
+
+-- So it is with a house's least score.
+pub least-score-most : (table : List ℕ) (storey direction : ℕ) → Stands table storey direction → leastScore table ≤ fullScore table storey direction
+unfolding leastScore
+least-score-most table storey direction s =
+    rw (← score-listed table storey direction s) (least-at-most (scores table) (scoreAt storey direction) (omega (arith, scores-length table)))
+
+pub score-at : (table : List ℕ) (i : ℕ) → i < 2 * storeys table → getD (scores table) i 0 ≡ fullScore table (i / 2 + 1) (i % 2 + 1)
+score-at table i inside =
+    let place : scoreAt (i / 2 + 1) (i % 2 + 1) ≡ i = omega arith in
+    rw place at (score-listed table (i / 2 + 1) (i % 2 + 1) (stands-at table i inside))
+
+pub score-small : (table : List ℕ) (storey direction : ℕ) → fullScore table storey direction ≤ 999
+unfolding fullScore
+score-small table storey direction = score-most (held table storey direction) (required table storey) (layout table storey direction) (deterioration table)
+
+pub least-score-one : (table : List ℕ) → judging table .number ≡ 0
+    → (storey : ℕ) × (direction : ℕ) × Stands table storey direction × (leastScore table ≡ fullScore table storey direction)
+unfolding leastScore
+least-score-one table h =
+    let long = scores-length table in
+    let found = least-listed (scores table) (omega (arith, long, storeys-few table h)) (λ i l. rw (score-at table i (omega (arith, long))) (score-small table _ _)) in
+    let inside : found .0 < 2 * storeys table = omega (arith, found .1, long) in
+    (found .0 / 2 + 1, found .0 % 2 + 1, stands-at table (found .0) inside, found .2 ∙ score-at table (found .0) inside)

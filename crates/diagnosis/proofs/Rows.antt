@@ -1,5 +1,5 @@
 -- The report's rows as they are written: a row copied, a storey's two rows, one storey more, the verdict's row. Assumes nothing.
-use mathlib.Core.Path.{_≡_, refl, sym, ap, _∙_}
+use mathlib.Core.Path.{_≡_, refl, _∙_}
 use mathlib.Core.List.{List, _++_, append-nil}
 use Prim.Native.Nat.{ℕ, _+_, _-_, _*_, _<_, _≤_}
 use native.Mathlib.Nat.{sub-zero}
@@ -7,10 +7,10 @@ use native.Mathlib.Numerals.{add-one}
 use native.Mathlib.Omega.{arith}
 use lib.ListN.{length, getD, take, drop, set, length-append, drop-of-length-le}
 use lib.Seq.{length-take-le, take-suc, take-all, take-at, drop-at, drop-drop}
-use borrow.Rule.Slice.PartMut.{putMid, postOf, post-is}
+use borrow.Rule.Slice.PartMut.{putMid, postOf}
 use Rattle.sheet.specs.Line.{joined}
 use Rattle.sheet.specs.Sheet.{over, afterPrinting}
-use Rattle.sheet.proofs.Lists.{over-length, over-part, over-set, over-whole, part-put, joined-length, joined-over}
+use Rattle.sheet.proofs.Lists.{over-part, over-set, over-whole, part-put, joined-length, joined-over}
 use Rattle.sheet.proofs.Sheets.{printing-rows}
 use Rattle.survey.specs.Table.{storeys}
 use Rattle.method.specs.declared.deterioration.Fraction.{Fraction}

@@ -5,10 +5,10 @@ use Prim.Native.Nat.{ℕ, _+_, _-_, _*_, _/_, _<_, _≤_}
 use native.Mathlib.Decide.{decLt}
 use native.Mathlib.Omega.{arith}
 use lib.ListN.{length}
-use Rattle.survey.specs.Table.{cell, storeys, endsRow, firstWall, partsRow, rowsDue}
+use Rattle.survey.specs.Table.{cell, storeys, endsRow, partsRow, rowsDue}
 use Rattle.survey.specs.Judgement.{judging}
 use Rattle.survey.proofs.Acceptance.{Accepted, accepted, accepted-zone}
-use Rattle.survey.proofs.Positions.{ends-above, ends-before, ends-storey}
+use Rattle.survey.proofs.Positions.{ends-above, ends-before}
 use Rattle.method.specs.Required.{mostRequired}
 use Rattle.method.proofs.Requirements.{narrow-most, required-most}
 use Rattle.diagnosis.specs.House.{zone, requiredOf, required, endRequired}

@@ -10,7 +10,7 @@ use Rattle.method.specs.Held.{mostHeld}
 use Rattle.method.specs.Required.{mostRequired}
 use Rattle.method.specs.LayoutFactor.{band}
 use Rattle.method.specs.Score.{score}
-use Rattle.method.proofs.Fractions.{Bounded, deterioration-bounded}
+use Rattle.method.proofs.Fractions.{deterioration-bounded}
 use Rattle.diagnosis.specs.declared.assessment.Assessment.{Assessment}
 use Rattle.diagnosis.specs.House.{age, present, marked, held, endHeld, required, endRequired, endBand, layout, deterioration, fullScore, assessment}
 use Rattle.diagnosis.proofs.Standing.{required-within, end-required-within}

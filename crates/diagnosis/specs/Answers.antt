@@ -3,7 +3,7 @@
 use mathlib.Core.Bool.{cond}
 use mathlib.Core.List.{List, [], _∷_}
 use Prim.Native.Nat.{ℕ, _*_}
-use Rattle.answer.specs.Told.{Told, accepts}
+use Rattle.answer.specs.Told.{accepts}
 use Rattle.sheet.specs.Sheet.{over}
 use Rattle.survey.specs.Table.{storeys}
 use Rattle.survey.specs.Judgement.{judging}

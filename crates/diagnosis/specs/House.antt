@@ -57,7 +57,7 @@ unfoldable pub share : List ℕ → ℕ → List ℕ → ℕ → ℕ
 share table storey walls row =
     wallShare (storeys table) storey (foundation table) (cell walls row 7) (cell walls row 6) (cell walls row 4) (cell walls row 5)
 
--- Of the first walls of a storey, so many, what those count together that a test takes.
+-- What those of the first walls of a storey, so many, count that a test takes, in their order; and what these walls hold together.
 unfoldable pub sharesWhere : (ℕ → Bool) → (ℕ → ℕ) → ℕ → List ℕ
 sharesWhere test counts zero = []
 sharesWhere test counts (suc n) = sharesWhere test counts n ++ cond (test n) (counts n ∷ []) []
@@ -94,13 +94,13 @@ heldBy table storey walls direction n = record {
 
 -- Required strength
 
--- What is required of so large a part of a storey, where the house has so many storeys: the part's storeys and its area are its own, and
--- the other factors are its storey's.
+-- What is required of a storey or of an end of it, by its area and by the storeys of its part of the house. The other factors are the
+-- storey's.
 unfoldable pub requiredOf : List ℕ → ℕ → ℕ → ℕ → ℕ
 requiredOf table storey partStoreys area =
     requiredStrength partStoreys storey (weight table) area (zone table) (ground table) (narrowFactor (storeys table) storey (cell table storey 3))
 
--- Of a storey, whose row is that of its number.
+-- Of a storey: the storeys are the house's, and its own row is that of its number.
 unfoldable pub required : List ℕ → ℕ → ℕ
 required table storey = requiredOf table storey (storeys table) (cell table storey 2)
 

@@ -1,5 +1,4 @@
 // A table scored: its record, or the refusal.
-use crate::assessment::Assessment;
 use crate::assessment::assess_storey;
 use crate::assessment::deterioration;
 use crate::numbers::cell;

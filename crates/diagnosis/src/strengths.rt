@@ -102,14 +102,15 @@ pub(crate) fn held_by(table: &[u32], storey: u32, walls: &[u32], direction: u32)
     sums
 }
 
-// What is required of a part of a storey, by the storeys of that part and its area.
+// What is required of a storey or of an end of it, by the storeys of its part of the house and its area.
 pub(crate) fn required_of(table: &[u32], storey: usize, part: u32, area: u32) -> u64
     requires { ⌜ judging (now table) .number ≡ 0 ⌝ }
     requires { ⌜ (1 ≤ storey) × (storey ≤ storeys (now table)) ⌝ }
     ensures { λ r. ⌜ r ≡ requiredOf (now (table .entry)) storey part area ⌝ }
 {
     let number = storey as u32;
-    let narrow = narrow_factor(cell(table, 0, 1), number, cell(table, storey, 3));
+    let storeys = cell(table, 0, 1);
+    let narrow = narrow_factor(storeys, number, cell(table, storey, 3));
     let zone = cell(table, 0, 3) as u8;
     required_strength(
         part,

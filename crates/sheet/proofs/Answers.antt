@@ -1,6 +1,6 @@
 -- What reading and writing answer, and what they leave, case by case in the order of their tests. Assumes nothing.
 use mathlib.Core.Path.{_≡_, refl, sym, ap, _∙_}
-use mathlib.Core.Bool.{false}
+use mathlib.Core.Bool.{Bool, true, false, cond}
 use mathlib.Core.List.{List}
 use Prim.Native.Nat.{ℕ, _*_, _<_, _≤_}
 use lib.Dec.{eqb, ltb, lit<}
@@ -11,10 +11,10 @@ use Rattle.answer.specs.declared.Answer.{Answer}
 use Rattle.answer.specs.declared.Answer.the-variants.{Count, Refused}
 use Rattle.answer.specs.Told.{Told, told, counted, refusal, accepts, sheet-length, misprint, out-of-range, lent-space-short}
 use Rattle.answer.specs.First.{first}
-use Rattle.answer.specs.Length.{rowsIn}
+use Rattle.answer.specs.Length.{mostRows, rowsIn}
 use Rattle.answer.proofs.Refusals.{passed, kept}
 use Rattle.answer.proofs.Places.{first-none, before-first}
-use Rattle.answer.proofs.Lengths.{Whole, rows-whole, rows-counted}
+use Rattle.answer.proofs.Lengths.{Whole, rows-whole, rows-counted, rows-most}
 use Rattle.sheet.specs.Sheet.{refusalAt, over, misprinted, numbersOf, reading, afterReading, tooLarge, linesOf, writing, afterWriting}
 
 -- A sheet of so many lines that can be read: whole lines, not too many, nothing misprinted.
@@ -119,6 +119,23 @@ module _ (sheet table : List ℕ) (lines : ℕ) (readable : Readable sheet lines
       let so-many : lines ≡ rowsIn 65 (length sheet) = rows-counted 65 (readable .lengths .whole) (lit< tt) (readable .lengths .most) in
       let found : 9 * lines ≡ first (misprinted sheet) (9 * lines) = sym (first-none (misprinted sheet) (9 * lines) (readable .right)) in
       reading-accepted sheet table so-many (λ z. omega (arith, readable .lengths .some)) room found (omega arith)
+
+-- A table with room for the longest sheet is never too short.
+pub never-short : (sheet : List ℕ) (lent : ℕ) → 8 * mostRows ≤ lent → reading sheet lent .number ≡ lent-space-short → ⊥
+unfolding reading refusalAt
+never-short sheet lent room e =
+    go (eqb lines 0) (ltb at (9 * lines)) (rw (le-ltb lent (8 * lines) (omega (arith, rows-most 65 (length sheet)))) at e)
+  where
+    lines : ℕ
+    lines = rowsIn 65 (length sheet)
+
+    at : ℕ
+    at = first (misprinted sheet) (9 * lines)
+
+    go : (b d : Bool) → (cond b (refusal sheet-length 0 0) (cond d (refusalAt misprint 9 at) (counted lines))) .number ≡ lent-space-short → ⊥
+    go true d e = omega arith
+    go false true e = omega arith
+    go false false e = omega arith
 
 -- What an accepted sheet's count says.
 pub accepted-count : (sheet table : List ℕ) → reading sheet (length table) .number ≡ 0

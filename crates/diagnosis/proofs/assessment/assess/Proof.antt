@@ -1,12 +1,12 @@
 -- `diagnosis::assessment::assess` meets its contract. Assumes nothing.
+use mathlib.Core.Path.{_≡_}
+use native.Mathlib.Omega.{arith}
+use denote.Ref.{now}
+use borrow.Author.Needs.{needs}
+use Rattle.diagnosis.specs.House.{layout}
 use Rattle.diagnosis.proofs.Sums.{sums-all, sums-a, sums-b}
 use Rattle.diagnosis.proofs.Standing.{storeys-few}
-use mathlib.Core.Path.{_≡_}
-use denote.Ref.{now}
-use Rattle.diagnosis.specs.House.{layout}
 use Rattle.diagnosis.proofs.Within.{score-is}
-use native.Mathlib.Omega.{arith}
-use borrow.Author.Needs.{needs}
 use Rattle.diagnosis.proofs.assessment.assess.Statement.{statement}
 use Rattle.diagnosis.proofs.assessment.assess.Tie as tie
 

@@ -1,9 +1,9 @@
 -- `diagnosis::assessment::assess_storey` meets its contract: the first run of a storey's walls is all of them. Assumes nothing.
-use Rattle.diagnosis.proofs.Standing.{storeys-few}
-use Rattle.survey.proofs.Shown.{run-is-walls}
 use mathlib.Core.Path.{_∙_}
 use native.Mathlib.Omega.{arith}
 use borrow.Author.Needs.{needs}
+use Rattle.survey.proofs.Shown.{run-is-walls}
+use Rattle.diagnosis.proofs.Standing.{storeys-few}
 use Rattle.diagnosis.proofs.assessment.assess_storey.Statement.{statement}
 use Rattle.diagnosis.proofs.assessment.assess_storey.Tie as tie
 

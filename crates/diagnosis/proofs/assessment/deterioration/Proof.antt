@@ -1,8 +1,8 @@
 -- `diagnosis::assessment::deterioration` meets its contract. Assumes nothing.
-use Rattle.diagnosis.proofs.Standing.{house-inside, row-inside, parts-last}
-use Rattle.diagnosis.specs.House.{deterioration}
 use native.Mathlib.Omega.{arith}
 use borrow.Author.Needs.{needs}
+use Rattle.diagnosis.specs.House.{deterioration}
+use Rattle.diagnosis.proofs.Standing.{house-inside, row-inside, parts-last}
 use Rattle.diagnosis.proofs.assessment.deterioration.Statement.{statement}
 use Rattle.diagnosis.proofs.assessment.deterioration.Tie as tie
 

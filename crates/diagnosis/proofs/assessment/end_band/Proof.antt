@@ -1,13 +1,13 @@
 -- `diagnosis::assessment::end_band` meets its contract. Assumes nothing.
+use mathlib.Core.Path.{_≡_, _∙_}
+use Prim.Native.Nat.{_+_, _-_, _*_, _≤_}
+use native.Mathlib.Omega.{arith}
+use denote.Ref.{now}
+use lib.ListN.{length}
+use borrow.Author.Needs.{needs}
+use Rattle.diagnosis.specs.House.{endRequired}
 use Rattle.diagnosis.proofs.Within.{band-is}
 use Rattle.diagnosis.proofs.Standing.{house-inside, ends-inside}
-use mathlib.Core.Path.{_≡_, _∙_}
-use Rattle.diagnosis.specs.House.{endRequired}
-use native.Mathlib.Omega.{arith}
-use Prim.Native.Nat.{_+_, _-_, _*_, _≤_}
-use lib.ListN.{length}
-use denote.Ref.{now}
-use borrow.Author.Needs.{needs}
 use Rattle.diagnosis.proofs.assessment.end_band.Statement.{statement}
 use Rattle.diagnosis.proofs.assessment.end_band.Tie as tie
 

@@ -1,8 +1,8 @@
 -- `diagnosis::assessment::floor` meets its contract. Assumes nothing.
-use Rattle.diagnosis.proofs.Standing.{storey-inside}
-use Rattle.diagnosis.specs.House.{floor}
 use native.Mathlib.Omega.{arith}
 use borrow.Author.Needs.{needs}
+use Rattle.diagnosis.specs.House.{floor}
+use Rattle.diagnosis.proofs.Standing.{storey-inside}
 use Rattle.diagnosis.proofs.assessment.floor.Statement.{statement}
 use Rattle.diagnosis.proofs.assessment.floor.Tie as tie
 

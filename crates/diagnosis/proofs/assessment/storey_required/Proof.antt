@@ -1,8 +1,8 @@
 -- `diagnosis::assessment::storey_required` meets its contract. Assumes nothing.
-use Rattle.diagnosis.proofs.Standing.{house-inside, storey-inside}
-use Rattle.diagnosis.specs.House.{required}
 use native.Mathlib.Omega.{arith}
 use borrow.Author.Needs.{needs}
+use Rattle.diagnosis.specs.House.{required}
+use Rattle.diagnosis.proofs.Standing.{house-inside, storey-inside}
 use Rattle.diagnosis.proofs.assessment.storey_required.Statement.{statement}
 use Rattle.diagnosis.proofs.assessment.storey_required.Tie as tie
 

@@ -1,8 +1,8 @@
 -- `diagnosis::program::diagnose_by` meets its contract: the refusal of reading, or the report of the sheet's table. Assumes nothing.
 use native.Mathlib.Omega.{arith}
 use denote.Ref.{now}
-use Rattle.diagnosis.proofs.Written.{rows-fit, diagnose-refused, diagnose-read}
 use borrow.Author.Needs.{needs}
+use Rattle.diagnosis.proofs.Written.{rows-fit, diagnose-refused, diagnose-read}
 use Rattle.diagnosis.proofs.program.diagnose_by.Statement.{statement}
 use Rattle.diagnosis.proofs.program.diagnose_by.Tie as tie
 

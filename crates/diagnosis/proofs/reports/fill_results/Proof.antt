@@ -1,21 +1,21 @@
 -- `diagnosis::reports::fill_results` meets its contract. The loop's invariant: the rows of the storeys below are written, and `least` is
 -- the least of their scores. Assumes nothing.
-use Rattle.diagnosis.proofs.Rows.{rowsOf, rows-of-length, storey-more}
-use Rattle.diagnosis.proofs.Listed.{scoresOf, least-score-more}
-use Rattle.diagnosis.proofs.Standing.{storeys-few, house-inside}
+use mathlib.Core.Path.{_≡_, refl, ap, _∙_}
+use Prim.Native.Nat.{_≤_, _+_, _-_, _*_}
+use native.Mathlib.Omega.{arith}
+use denote.Ref.{now}
+use lib.ListN.{length}
+use borrow.Author.Needs.{needs}
+use Rattle.answer.proofs.Parts.{lent-part, part-size}
+use Rattle.sheet.specs.Sheet.{over}
+use Rattle.sheet.specs.Line.{joined}
 use Rattle.sheet.proofs.Lists.{over-length}
 use Rattle.diagnosis.specs.declared.assessment.Assessment.{Assessment}
 use Rattle.diagnosis.specs.Report.{resultRows}
 use Rattle.diagnosis.specs.House.{scores, leastOf, leastScore}
-use Rattle.sheet.specs.Sheet.{over}
-use Rattle.sheet.specs.Line.{joined}
-use denote.Ref.{now}
-use lib.ListN.{length}
-use Rattle.answer.proofs.Parts.{lent-part, part-size}
-use native.Mathlib.Omega.{arith}
-use mathlib.Core.Path.{_≡_, refl, ap, _∙_}
-use Prim.Native.Nat.{_≤_, _+_, _-_, _*_}
-use borrow.Author.Needs.{needs}
+use Rattle.diagnosis.proofs.Rows.{rowsOf, rows-of-length, storey-more}
+use Rattle.diagnosis.proofs.Listed.{scoresOf, least-score-more}
+use Rattle.diagnosis.proofs.Standing.{storeys-few, house-inside}
 use Rattle.diagnosis.proofs.reports.fill_results.Statement.{statement}
 use Rattle.diagnosis.proofs.reports.fill_results.Tie as tie
 

@@ -1,11 +1,11 @@
 -- `diagnosis::reports::fill_storey` meets its contract: two rows, each in its half. Assumes nothing.
+use mathlib.Core.Path.{_∙_}
+use native.Mathlib.Omega.{arith}
+use denote.Ref.{now}
+use borrow.Author.Needs.{needs}
 use Rattle.diagnosis.proofs.Rows.{storey-written}
 use Rattle.diagnosis.proofs.Within.{row-fits}
-use denote.Ref.{now}
-use mathlib.Core.Path.{_∙_}
 use Rattle.diagnosis.proofs.Standing.{storeys-few}
-use native.Mathlib.Omega.{arith}
-use borrow.Author.Needs.{needs}
 use Rattle.diagnosis.proofs.reports.fill_storey.Statement.{statement}
 use Rattle.diagnosis.proofs.reports.fill_storey.Tie as tie
 

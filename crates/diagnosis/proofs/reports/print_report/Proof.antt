@@ -1,16 +1,16 @@
 -- `diagnosis::reports::print_report` meets its contract: the report's rows, and these printed. Assumes nothing.
-use Rattle.sheet.specs.Sheet.{afterPrinting}
-use Prim.Native.Nat.{ℕ}
 use mathlib.Core.List.{List}
-use Rattle.diagnosis.proofs.Rows.{results-length, rows-taken, report-printed}
-use Rattle.diagnosis.specs.Report.{verdictRow}
-use Rattle.sheet.proofs.Lists.{over-length}
-use Rattle.diagnosis.proofs.Standing.{storeys-few, house-inside}
 use mathlib.Core.Path.{_≡_, ap, _∙_}
+use Prim.Native.Nat.{ℕ}
+use native.Mathlib.Omega.{arith}
 use denote.Ref.{now}
 use lib.ListN.{length}
-use native.Mathlib.Omega.{arith}
 use borrow.Author.Needs.{needs}
+use Rattle.sheet.specs.Sheet.{afterPrinting}
+use Rattle.sheet.proofs.Lists.{over-length}
+use Rattle.diagnosis.specs.Report.{verdictRow}
+use Rattle.diagnosis.proofs.Rows.{results-length, rows-taken, report-printed}
+use Rattle.diagnosis.proofs.Standing.{storeys-few, house-inside}
 use Rattle.diagnosis.proofs.reports.print_report.Statement.{statement}
 use Rattle.diagnosis.proofs.reports.print_report.Tie as tie
 

@@ -1,12 +1,12 @@
 -- `diagnosis::reports::put_row` meets its contract. The loop's invariant: the columns before `column` are copied. Assumes nothing.
-use Rattle.diagnosis.proofs.Rows.{column-more, row-copied}
-use denote.Ref.{now}
-use native.Mathlib.Omega.{arith}
-use Rattle.sheet.specs.Sheet.{over}
-use lib.ListN.{length, take, length-set}
 use mathlib.Core.Path.{_≡_, refl}
 use Prim.Native.Nat.{_≤_, _-_}
+use native.Mathlib.Omega.{arith}
+use denote.Ref.{now}
+use lib.ListN.{length, take, length-set}
 use borrow.Author.Needs.{needs}
+use Rattle.sheet.specs.Sheet.{over}
+use Rattle.diagnosis.proofs.Rows.{column-more, row-copied}
 use Rattle.diagnosis.proofs.reports.put_row.Statement.{statement}
 use Rattle.diagnosis.proofs.reports.put_row.Tie as tie
 

@@ -1,6 +1,6 @@
 -- `diagnosis::reports::refusal_line` meets its contract. Assumes nothing.
-use Rattle.diagnosis.specs.Report.{refusalLine}
 use borrow.Author.Needs.{needs}
+use Rattle.diagnosis.specs.Report.{refusalLine}
 use Rattle.diagnosis.proofs.reports.refusal_line.Statement.{statement}
 use Rattle.diagnosis.proofs.reports.refusal_line.Tie as tie
 

@@ -1,12 +1,12 @@
 -- `diagnosis::reports::report_accepted` meets its contract: 9, or the report. Assumes nothing.
-use Rattle.answer.specs.Told.{counted}
-use denote.Ref.{now}
-use Prim.Native.Nat.{ℕ, _+_, _*_}
 use mathlib.Core.Path.{ap, _∙_}
+use Prim.Native.Nat.{ℕ, _+_, _*_}
+use native.Mathlib.Omega.{arith}
+use denote.Ref.{now}
+use borrow.Author.Needs.{needs}
+use Rattle.answer.specs.Told.{counted}
 use Rattle.diagnosis.proofs.Written.{report-short, report-written}
 use Rattle.diagnosis.proofs.Standing.{storeys-few, house-inside}
-use native.Mathlib.Omega.{arith}
-use borrow.Author.Needs.{needs}
 use Rattle.diagnosis.proofs.reports.report_accepted.Statement.{statement}
 use Rattle.diagnosis.proofs.reports.report_accepted.Tie as tie
 

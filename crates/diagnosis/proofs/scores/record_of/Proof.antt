@@ -1,16 +1,16 @@
 -- `diagnosis::scores::record_of` meets its contract. The loop's invariant: the scores of the storeys below are listed, and `least` is the
 -- least of them. Assumes nothing.
-use Rattle.diagnosis.proofs.Listed.{scoresOf, scores-more, least-score-more}
-use Rattle.diagnosis.proofs.Standing.{storeys-few, house-inside}
-use Rattle.diagnosis.specs.Answers.{noScores, recordOf}
-use Rattle.diagnosis.specs.declared.assessment.Assessment.{Assessment}
-use Rattle.diagnosis.specs.House.{scores, leastOf, leastScore, houseVerdict}
-use Rattle.sheet.specs.Sheet.{over}
-use Rattle.sheet.specs.Line.{joined}
-use native.Mathlib.Omega.{arith}
 use mathlib.Core.Path.{_≡_, refl, ap, _∙_}
 use Prim.Native.Nat.{_≤_, _-_}
+use native.Mathlib.Omega.{arith}
 use borrow.Author.Needs.{needs}
+use Rattle.sheet.specs.Sheet.{over}
+use Rattle.sheet.specs.Line.{joined}
+use Rattle.diagnosis.specs.declared.assessment.Assessment.{Assessment}
+use Rattle.diagnosis.specs.Answers.{noScores, recordOf}
+use Rattle.diagnosis.specs.House.{scores, leastOf, leastScore, houseVerdict}
+use Rattle.diagnosis.proofs.Listed.{scoresOf, scores-more, least-score-more}
+use Rattle.diagnosis.proofs.Standing.{storeys-few, house-inside}
 use Rattle.diagnosis.proofs.scores.record_of.Statement.{statement}
 use Rattle.diagnosis.proofs.scores.record_of.Tie as tie
 

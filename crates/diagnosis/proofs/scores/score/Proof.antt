@@ -1,10 +1,10 @@
 -- `diagnosis::scores::score` meets its contract: the refusal of judging, or the record. Assumes nothing.
-use Rattle.answer.specs.Told.{told}
 use mathlib.Core.Path.{sym, ap, _∙_}
-use Rattle.diagnosis.specs.Answers.{scoring}
 use borrow.Author.Tests.{eq-eqb, ne-eqb}
-use Rattle.survey.proofs.Acceptance.{judge-refused, judge-accepted}
 use borrow.Author.Needs.{needs}
+use Rattle.answer.specs.Told.{told}
+use Rattle.survey.proofs.Acceptance.{judge-refused, judge-accepted}
+use Rattle.diagnosis.specs.Answers.{scoring}
 use Rattle.diagnosis.proofs.scores.score.Statement.{statement}
 use Rattle.diagnosis.proofs.scores.score.Tie as tie
 

@@ -1,13 +1,13 @@
 -- `diagnosis::strengths::held_by` meets its contract. The loop's invariant: the sums are those over the walls before `row`. Assumes nothing.
-use Rattle.diagnosis.proofs.Sums.{no-walls, walls-short, held-within}
-use Rattle.diagnosis.proofs.Standing.{house-inside}
-use lib.ListN.{length}
-use denote.Ref.{now}
-use Rattle.diagnosis.specs.House.{heldBy}
-use native.Mathlib.Omega.{arith}
 use mathlib.Core.Path.{_≡_, ap, _∙_}
 use Prim.Native.Nat.{_≤_, _-_, _/_}
+use native.Mathlib.Omega.{arith}
+use denote.Ref.{now}
+use lib.ListN.{length}
 use borrow.Author.Needs.{needs}
+use Rattle.diagnosis.specs.House.{heldBy}
+use Rattle.diagnosis.proofs.Sums.{no-walls, walls-short, held-within}
+use Rattle.diagnosis.proofs.Standing.{house-inside}
 use Rattle.diagnosis.proofs.strengths.held_by.Statement.{statement}
 use Rattle.diagnosis.proofs.strengths.held_by.Tie as tie
 

@@ -1,6 +1,6 @@
 -- `diagnosis::strengths::share` meets its contract. Assumes nothing.
-use Rattle.diagnosis.specs.House.{share}
 use borrow.Author.Needs.{needs}
+use Rattle.diagnosis.specs.House.{share}
 use Rattle.diagnosis.proofs.strengths.share.Statement.{statement}
 use Rattle.diagnosis.proofs.strengths.share.Tie as tie
 

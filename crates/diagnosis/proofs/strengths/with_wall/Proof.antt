@@ -1,15 +1,15 @@
 -- `diagnosis::strengths::with_wall` meets its contract: each return is one case of a wall that is added. Assumes nothing.
-use Rattle.survey.specs.Table.{cell}
-use denote.Ref.{now}
 use mathlib.Core.Path.{_≡_, sym, _∙_}
-use Rattle.method.proofs.Shares.{mostShare}
-use Rattle.method.specs.Held.{mostHeld}
-use mir.Val.{Fits}
-use mir.Syntax.{w64}
 use Prim.Native.Nat.{ℕ, _+_, _≤_}
 use native.Mathlib.Omega.{arith}
-use Rattle.diagnosis.proofs.Sums.{share-at-most, other-direction, opening, at-a, at-b, in-middle}
+use mir.Val.{Fits}
+use mir.Syntax.{w64}
+use denote.Ref.{now}
 use borrow.Author.Needs.{needs}
+use Rattle.survey.specs.Table.{cell}
+use Rattle.method.specs.Held.{mostHeld}
+use Rattle.method.proofs.Shares.{mostShare}
+use Rattle.diagnosis.proofs.Sums.{share-at-most, other-direction, opening, at-a, at-b, in-middle}
 use Rattle.diagnosis.proofs.strengths.with_wall.Statement.{statement}
 use Rattle.diagnosis.proofs.strengths.with_wall.Tie as tie
 
