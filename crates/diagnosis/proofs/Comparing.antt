@@ -3,7 +3,7 @@ use mathlib.Core.Path.{_≡_, refl, sym, ap, fun-ext, _∙_}
 use mathlib.Core.Bool.{false, _||_, and-false}
 use mathlib.Core.List.{List}
 use Prim.Native.Nat.{ℕ, zero, suc, _+_, _-_, _*_, _/_, _%_, _<_, _≤_}
-use native.Mathlib.Nat.{le-refl, le-trans, le-of-eq}
+use native.Mathlib.Nat.{le-refl, le-of-eq}
 use native.Mathlib.Omega.{arith}
 use lib.Dec.{eqb}
 use lib.Bits.{bitAnd}
@@ -22,10 +22,10 @@ use Rattle.method.proofs.Requirements.{narrow-least, required-rises, required-p
 use Rattle.method.proofs.Bands.{floor-most}
 use Rattle.method.proofs.Fractions.{_at-most_, deterioration-bounded, deterioration-falls}
 use Rattle.method.proofs.Comparisons.{score-before-falls, full-score-falls, verdict-rises}
-use Rattle.diagnosis.specs.House.{ground, foundation, present, marked, age, endA, endB, share, heldWhere, held, endHeld, requiredOf, required, endRequired, endBand, higherBand, floor, layout, deterioration, scoreBefore, fullScore, scores, leastScore, houseVerdict}
+use Rattle.diagnosis.specs.House.{ground, foundation, present, marked, age, endA, endB, share, heldWhere, held, endHeld, requiredOf, required, endRequired, endBand, higherBand, storeyFloorType, layout, deterioration, scoreBefore, fullScore, scores, leastScore, houseVerdict}
 use Rattle.diagnosis.specs.Answers.{recordOf}
-use Rattle.diagnosis.specs.Comparison.{mayDiffer, Worse, Stands, Kept, scoreAt, NoBetter}
-use Rattle.diagnosis.proofs.Listed.{scores-length, score-at, record-score, record-told, least-falls, stands-at}
+use Rattle.diagnosis.specs.Comparison.{mayDiffer, Worse, InHouse, Kept, NoBetter}
+use Rattle.diagnosis.proofs.Listed.{scores-length, score-at, record-score, record-told, least-falls, in-house-at}
 
 lower-some : (table : List ℕ) → 0 < deterioration table .lower
 unfolding deterioration
@@ -38,7 +38,7 @@ module _ (A B : List ℕ) (w : Worse A B) where
   b : Accepted B
   b = accepted B (w .B-accepted)
 
-  -- What is the same in both: of every row a column that differs in none,
+  -- What is the same in both: every column that may differ in no row,
   column-same : (row column : ℕ) → column < 8 → (eqb column 2 || eqb column 3 || eqb column 4 || eqb column 6) ≡ false → eqb column 2 ≡ false
       → cell A row column ≡ cell B row column
   unfolding mayDiffer
@@ -98,16 +98,16 @@ module _ (A B : List ℕ) (w : Worse A B) where
       rw (← present-same)
       (deterioration-falls (present A) (marked A) (marked B) (eqb-true (bitAnd (marked A) (marked B)) (marked A) (w .marks)) (w .older))
 
-  module _ (storey direction : ℕ) (s : Stands A storey direction) where
+  module _ (storey direction : ℕ) (s : InHouse A storey direction) where
     storey-same : (column : ℕ) → column < 8 → cell A storey column ≡ cell B storey column
     storey-same column inside = row-same storey column (λ e. omega arith) (λ e. omega arith) inside
 
-    floor-same : floor A storey ≡ floor B storey
-    unfolding floor
+    floor-same : storeyFloorType A storey ≡ storeyFloorType B storey
+    unfolding storeyFloorType
     floor-same = rw (storey-same 4 (omega arith), storey-same 5 (omega arith))
 
-    floor-known : floor A storey ≤ 3
-    unfolding floor
+    floor-known : storeyFloorType A storey ≤ 3
+    unfolding storeyFloorType
     floor-known = floor-most (cell A storey 5) (a .storey-inside storey (s .some-storey) (s .last-storey) 4 (omega arith) .1)
 
     narrow-same : narrowFactor (storeys A) storey (cell A storey 3) ≡ narrowFactor (storeys B) storey (cell B storey 3)
@@ -187,8 +187,8 @@ module _ (A B : List ℕ) (w : Worse A B) where
         (rw (← one, ← other) at kept) required-some
         (lower-some A) (lower-some B))
 
-  stands-both : {storey direction : ℕ} → Stands A storey direction → Stands B storey direction
-  stands-both s = record {
+  in-both : {storey direction : ℕ} → InHouse A storey direction → InHouse B storey direction
+  in-both s = record {
     some-storey = s .some-storey;
     last-storey = rw storeys-same at (s .last-storey);
     some-direction = s .some-direction;
@@ -196,10 +196,10 @@ module _ (A B : List ℕ) (w : Worse A B) where
   }
 
   -- Where all keep it, the least score is no higher, and the verdict no better.
-  module _ (kept : (storey direction : ℕ) → Stands A storey direction → Kept A B storey direction) where
+  module _ (kept : (storey direction : ℕ) → InHouse A storey direction → Kept A B storey direction) where
     listed-falls : (i : ℕ) → i < 2 * storeys A → getD (scores B) i 0 ≤ getD (scores A) i 0
     listed-falls i inside =
-        let s = stands-at A i inside in
+        let s = in-house-at A i inside in
         rw (score-at A i inside, score-at B i (omega (arith, storeys-same)))
         (full-falls (i / 2 + 1) (i % 2 + 1) s (kept (i / 2 + 1) (i % 2 + 1) s))
 
@@ -218,7 +218,7 @@ module _ (A B : List ℕ) (w : Worse A B) where
     verdict = verdict-no-better;
     record-full = λ x y ex ey storey direction s kept.
         rw (record-told A x (w .A-accepted) ex, record-told B y (w .B-accepted) ey)
-        (rw (record-score A storey direction s, record-score B storey direction (stands-both s))
+        (rw (record-score A storey direction s, record-score B storey direction (in-both s))
         (full-falls storey direction s kept));
     record-verdict = λ x y ex ey kept.
         rw (record-told A x (w .A-accepted) ex, record-told B y (w .B-accepted) ey) (verdict-no-better kept);

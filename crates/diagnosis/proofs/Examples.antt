@@ -26,7 +26,7 @@ use Rattle.method.specs.LayoutFactor.{reached, band, floorType, layoutFactor}
 use Rattle.method.specs.Deterioration.{points, countedMarks, factorOf, deteriorationFactor}
 use Rattle.method.specs.Score.{score, verdict}
 use Rattle.method.proofs.Examples.{worked, expected, worked-out}
-use Rattle.diagnosis.specs.House.{zone, age, marked, share, sharesWhere, heldWhere, inDirection, solidAtEnd, held, endHeld, requiredOf, required, endRequired, endBand, higherBand, floor, layout, deterioration, fullScore, scores, leastOf, leastScore}
+use Rattle.diagnosis.specs.House.{zone, age, marked, share, sharesWhere, heldWhere, inDirection, solidAtEnd, held, endHeld, requiredOf, required, endRequired, endBand, higherBand, storeyFloorType, layout, deterioration, fullScore, scores, leastOf, leastScore}
 use Rattle.diagnosis.specs.Report.{resultRows, reportRows, reportBytes, reporting}
 use Rattle.diagnosis.specs.Program.{mostNumbers, tableOf, diagnosing, afterDiagnosing}
 
@@ -127,7 +127,7 @@ p10-walls zone known = rw (p10-judged zone known)
 
 -- From the walls on all is computed. Laws below that name this one in their `unfolding` line unfold what it does.
 pub p1-scores : scores p1 ≡ 47 ∷ 83 ∷ []
-unfolding scores joined fullScore layout higherBand endBand endRequired required requiredOf deterioration floor held endHeld heldWhere sharesWhere share solidAtEnd inDirection rowsFrom wallRows first nth position foundationUsed sharedRow entry interpolated rowFactor jointFactor solidShare openingShare wallShare heldStrength topLine constant groundFactor narrowFactor requiredStrength reached band floorType layoutFactor points countedMarks factorOf deteriorationFactor score
+unfolding scores joined fullScore layout higherBand endBand endRequired required requiredOf deterioration storeyFloorType held endHeld heldWhere sharesWhere share solidAtEnd inDirection rowsFrom wallRows first nth position foundationUsed sharedRow entry interpolated rowFactor jointFactor solidShare openingShare wallShare heldStrength topLine constant groundFactor narrowFactor requiredStrength reached band floorType layoutFactor points countedMarks factorOf deteriorationFactor score
 p1-scores = rw (p1-walls 100 2 8 p1-judged)
 
 p1-rows : reportRows p1 ≡

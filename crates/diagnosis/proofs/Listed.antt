@@ -19,7 +19,7 @@ use Rattle.diagnosis.specs.declared.scores.Record.{Record}
 use Rattle.diagnosis.specs.declared.scores.Scoring.{Scoring}
 use Rattle.diagnosis.specs.House.{held, required, layout, deterioration, fullScore, storeyScores, scores, leastOf, leastScore}
 use Rattle.diagnosis.specs.Answers.{noScores, ToldScoring, toldOutcome, toldScoring, recordOf, scoring}
-use Rattle.diagnosis.specs.Comparison.{Stands, scoreAt}
+use Rattle.diagnosis.specs.Comparison.{InHouse, scoreAt}
 use Rattle.diagnosis.proofs.Standing.{storeys-few}
 
 -- The least of some scores, and of two more.
@@ -58,7 +58,7 @@ two-listed f (suc zero) some most = refl
 two-listed f (suc (suc zero)) some most = refl
 two-listed f (suc (suc (suc n))) some most = absurd (omega arith)
 
-module _ (table : List ℕ) (storey direction : ℕ) (s : Stands table storey direction) where
+module _ (table : List ℕ) (storey direction : ℕ) (s : InHouse table storey direction) where
   -- Among them, the score of a storey and direction.
   pub score-listed : getD (scores table) (scoreAt storey direction) 0 ≡ fullScore table storey direction
   unfolding scores
@@ -87,8 +87,8 @@ record-told table a h e =
     sym (told-result (a .outcome) (a .result)) ∙ ap (λ (x : ToldScoring). x .result) e ∙ rw (eq-eqb (judging table .number) 0 h)
 
 -- The storey and direction of a place among the scores.
-pub stands-at : (table : List ℕ) (i : ℕ) → i < 2 * storeys table → Stands table (i / 2 + 1) (i % 2 + 1)
-stands-at table i inside =
+pub in-house-at : (table : List ℕ) (i : ℕ) → i < 2 * storeys table → InHouse table (i / 2 + 1) (i % 2 + 1)
+in-house-at table i inside =
     record { some-storey = omega arith; last-storey = omega arith; some-direction = omega arith; last-direction = omega arith }
 
 -- The least of scores of which none is above those of another list.
@@ -123,7 +123,7 @@ least-listed (one ∷ other ∷ others) any small =
     go (no later) found = (suc (found .0), omega (arith, found .1), omega (arith, found .2))
 
 -- So it is with a house's least score.
-pub least-score-most : (table : List ℕ) (storey direction : ℕ) → Stands table storey direction → leastScore table ≤ fullScore table storey direction
+pub least-score-most : (table : List ℕ) (storey direction : ℕ) → InHouse table storey direction → leastScore table ≤ fullScore table storey direction
 unfolding leastScore
 least-score-most table storey direction s =
     rw (← score-listed table storey direction s) (least-at-most (scores table) (scoreAt storey direction) (omega (arith, scores-length table)))
@@ -131,17 +131,17 @@ least-score-most table storey direction s =
 pub score-at : (table : List ℕ) (i : ℕ) → i < 2 * storeys table → getD (scores table) i 0 ≡ fullScore table (i / 2 + 1) (i % 2 + 1)
 score-at table i inside =
     let place : scoreAt (i / 2 + 1) (i % 2 + 1) ≡ i = omega arith in
-    rw place at (score-listed table (i / 2 + 1) (i % 2 + 1) (stands-at table i inside))
+    rw place at (score-listed table (i / 2 + 1) (i % 2 + 1) (in-house-at table i inside))
 
 pub score-small : (table : List ℕ) (storey direction : ℕ) → fullScore table storey direction ≤ 999
 unfolding fullScore
 score-small table storey direction = score-most (held table storey direction) (required table storey) (layout table storey direction) (deterioration table)
 
 pub least-score-one : (table : List ℕ) → judging table .number ≡ 0
-    → (storey : ℕ) × (direction : ℕ) × Stands table storey direction × (leastScore table ≡ fullScore table storey direction)
+    → (storey : ℕ) × (direction : ℕ) × InHouse table storey direction × (leastScore table ≡ fullScore table storey direction)
 unfolding leastScore
 least-score-one table h =
     let long = scores-length table in
     let found = least-listed (scores table) (omega (arith, long, storeys-few table h)) (λ i l. rw (score-at table i (omega (arith, long))) (score-small table _ _)) in
     let inside : found .0 < 2 * storeys table = omega (arith, found .1, long) in
-    (found .0 / 2 + 1, found .0 % 2 + 1, stands-at table (found .0) inside, found .2 ∙ score-at table (found .0) inside)
+    (found .0 / 2 + 1, found .0 % 2 + 1, in-house-at table (found .0) inside, found .2 ∙ score-at table (found .0) inside)

@@ -18,7 +18,7 @@ use Rattle.survey.proofs.Positions.{beyond}
 use Rattle.survey.proofs.Examples.{p1-judged}
 use Rattle.method.proofs.Tables.{everyBelow, at-every}
 use Rattle.diagnosis.specs.House.{weight, zone, ground, age, marked, fullScore, houseVerdict}
-use Rattle.diagnosis.specs.Comparison.{mayDiffer, Worse, Stands, Kept}
+use Rattle.diagnosis.specs.Comparison.{mayDiffer, Worse, InHouse, Kept}
 use Rattle.diagnosis.proofs.Comparing.{comparison}
 use Rattle.diagnosis.proofs.Examples.{youngP1, young-judged, zones-known, p10, p10-judged, p10-rises, young-band}
 
@@ -63,9 +63,9 @@ p10-worse =
     (omega arith) (omega arith) (omega arith) (omega arith) refl
 
 -- So without that premise the comparison is false.
-pub bands-needed : ((A B : List ℕ) → Worse A B → (storey direction : ℕ) → Stands A storey direction → fullScore B storey direction ≤ fullScore A storey direction) → ⊥
+pub bands-needed : ((A B : List ℕ) → Worse A B → (storey direction : ℕ) → InHouse A storey direction → fullScore B storey direction ≤ fullScore A storey direction) → ⊥
 bands-needed claim =
-    let stands : Stands (p10 90) 1 1 = record { some-storey = omega arith; last-storey = omega arith; some-direction = omega arith; last-direction = omega arith } in
+    let stands : InHouse (p10 90) 1 1 = record { some-storey = omega arith; last-storey = omega arith; some-direction = omega arith; last-direction = omega arith } in
     omega (arith, claim (p10 90) (p10 100) p10-worse 1 1 stands, p10-rises .0, p10-rises .1)
 
 -- A pair to which all of demand 3 applies: P1 is `youngP1` made worse, and every better end keeps its band.
@@ -75,7 +75,7 @@ young-worse =
     made-worse youngP1 p1 11 young-judged p1-judged refl refl refl
     (omega arith) (omega arith) (omega arith) (omega arith) refl
 
-pub young-kept : (storey direction : ℕ) → Stands youngP1 storey direction → Kept youngP1 p1 storey direction
+pub young-kept : (storey direction : ℕ) → InHouse youngP1 storey direction → Kept youngP1 p1 storey direction
 young-kept storey direction s =
     let one : storey ≡ 1 = omega arith in
     rw one (young-band direction (s .some-direction) (s .last-direction))

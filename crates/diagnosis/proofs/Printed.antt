@@ -1,28 +1,25 @@
 -- Every number of a report is printed whole: none is over 99,999,999, so the report is the sheet that `sheet` writes of its rows. Assumes
 -- nothing.
-use mathlib.Core.Path.{_≡_, sym}
+use mathlib.Core.Path.{_≡_}
 use mathlib.Core.Bool.{true}
 use mathlib.Core.List.{List, [], _∷_, _++_}
-use Prim.Native.Nat.{ℕ, zero, suc, _+_, _*_, _/_, _<_, _≤_}
+use Prim.Native.Nat.{ℕ, zero, suc, _+_, _*_, _<_, _≤_}
 use native.Mathlib.Nat.{le-trans, div-le-self}
 use native.Mathlib.Omega.{arith}
 use lib.ListN.{length, getD}
 use lib.Dec.{T, lit≤}
 use borrow.Author.Tests.{le-ltb}
 use Rattle.answer.specs.Told.{counted}
-use Rattle.answer.proofs.Lengths.{Whole}
 use Rattle.sheet.specs.Line.{joined}
 use Rattle.sheet.specs.Sheet.{over, tooLarge, writing, afterWriting}
 use Rattle.sheet.proofs.Answers.{Writable, writable-accepted}
 use Rattle.survey.specs.Table.{storeys}
 use Rattle.survey.specs.Judgement.{judging}
 use Rattle.method.specs.declared.deterioration.Fraction.{Fraction}
-use Rattle.method.specs.Held.{mostHeld}
-use Rattle.method.specs.Required.{mostRequired}
 use Rattle.method.proofs.Bands.{layout-most}
 use Rattle.method.proofs.Fractions.{Bounded, deterioration-bounded}
-use Rattle.method.proofs.Comparisons.{score-most, verdict-most}
-use Rattle.diagnosis.specs.House.{age, present, marked, held, required, layout, deterioration, scores, leastOf, leastScore, assessment}
+use Rattle.method.proofs.Comparisons.{verdict-most}
+use Rattle.diagnosis.specs.House.{age, present, marked, layout, deterioration, scores, leastOf, leastScore, assessment}
 use Rattle.diagnosis.specs.Report.{hundredths, resultRow, storeyRows, resultRows, verdictRow, reportRows, reportLines, reportBytes}
 use Rattle.diagnosis.proofs.Standing.{storeys-few, required-within}
 use Rattle.diagnosis.proofs.Sums.{held-most}

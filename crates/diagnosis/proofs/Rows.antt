@@ -29,19 +29,16 @@ pub row-copied : (row lent : List ℕ) {written : List ℕ} (column : ℕ) → l
 row-copied row lent column all long e = e ∙ rw (take-all column row all) (over-whole lent row long)
 
 -- Two rows, each written over its half.
-halves : (lent one other : List ℕ) → length lent ≡ 16 → length one ≡ 8 → length other ≡ 8
-    → putMid 8 8 (one ++ postOf 0 8 lent) other ≡ one ++ other
-halves lent one other long first second =
-    rw (take-at one (drop 8 lent) 8 first, drop-at one (drop 8 lent) 8 first, drop-drop 8 8 lent, drop-of-length-le lent {i = 16} (omega arith), append-nil)
+pub two-rows : (lent : List ℕ) {one other : List ℕ} (x y : List ℕ) → length lent ≡ 16 → length x ≡ 8 → length y ≡ 8 → one ≡ x → other ≡ y
+    → putMid 8 8 (one ++ postOf 0 8 lent) other ≡ x ++ y
+two-rows lent x y long first second one other =
+    rw (one, other, take-at x (drop 8 lent) 8 first, drop-at x (drop 8 lent) 8 first, drop-drop 8 8 lent, drop-of-length-le lent {i = 16} (omega arith), append-nil)
 
--- A storey's two rows, by what is worked out of it.
-pub storey-written : (table lent : List ℕ) (storey : ℕ) {one other : List ℕ} {x y : Assessment} {factor : Fraction} → length lent ≡ 16
-    → one ≡ resultRow storey 1 x factor → other ≡ resultRow storey 2 y factor
+-- They are the storey's, where they are made of what is worked out for it.
+pub storey-rows : (table : List ℕ) (storey : ℕ) {x y : Assessment} {factor : Fraction}
     → x ≡ assessment table storey 1 → y ≡ assessment table storey 2 → factor ≡ deterioration table
-    → putMid 8 8 (one ++ postOf 0 8 lent) other ≡ storeyRows table storey
-storey-written table lent storey long first second x y factor =
-    rw (first, second, x, y, factor)
-    (halves lent (resultRow storey 1 (assessment table storey 1) (deterioration table)) (resultRow storey 2 (assessment table storey 2) (deterioration table)) long refl refl)
+    → resultRow storey 1 x factor ++ resultRow storey 2 y factor ≡ storeyRows table storey
+storey-rows table storey x y factor = rw (x, y, factor)
 
 -- The rows of so many storeys.
 abbrev pub rowsOf : List ℕ → ℕ → List ℕ

@@ -36,12 +36,12 @@ module _ (table lent : List ℕ) where
     report-written room = (rw (eq-eqb (judging table .number) 0 h, le-ltb (length lent) (65 * reportLines table) room), rw (eq-eqb (judging table .number) 0 h, le-ltb (length lent) (65 * reportLines table) room))
 
   -- A table that is refused.
-  pub report-refused : {answer : Answer} {number row column : ℕ} → told answer ≡ judging table → answer ≡ Refused number row column
-      → Reported table lent (refusal number row column) lent
+  pub report-refused : (answer : Answer) {number row column : ℕ} → told answer ≡ judging table → answer ≡ Refused number row column
+      → Reported table lent (told answer) lent
   unfolding reporting afterReporting
-  report-refused judged e =
+  report-refused answer judged e =
       let refused = ne-eqb (judging table .number) 0 (judge-refused table judged e) in
-      (rw refused (sym (ap told e) ∙ judged), rw (refused, refused))
+      (rw refused judged, rw (refused, refused))
 
 -- An answer to diagnosing a sheet into lent bytes, and these afterwards.
 abbrev Diagnosed : List ℕ → List ℕ → Told → List ℕ → Type 0
@@ -49,12 +49,11 @@ Diagnosed sheet lent answer after = (answer ≡ diagnosing sheet (length lent)) 
 
 module _ (sheet table lent : List ℕ) {answer : Answer} (long : length table ≡ mostNumbers) (read : told answer ≡ reading sheet (length table)) where
   -- A sheet that cannot be read.
-  pub diagnose-refused : {number row column : ℕ} → answer ≡ Refused number row column → Diagnosed sheet lent (refusal number row column) lent
+  pub diagnose-refused : {number row column : ℕ} → answer ≡ Refused number row column → Diagnosed sheet lent (told answer) lent
   unfolding diagnosing afterDiagnosing
   diagnose-refused e =
       let refused = rw long at (read-refused sheet table read e) in
-      let told-so = rw long at read in
-      (rw refused (sym (ap told e) ∙ told-so), rw (refused, refused))
+      (rw refused (rw long at read), rw (refused, refused))
 
   -- One that can: its rows are its table.
   module _ {rows : ℕ} (e : answer ≡ Count rows) where

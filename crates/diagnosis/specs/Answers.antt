@@ -1,6 +1,6 @@
 -- What scoring answers. Document 01: "scoring has its record in place of the count, all 0 when refused"; "The library answers with a record of
 -- up to six scores with the verdict."
-use mathlib.Core.Bool.{cond}
+use mathlib.Core.Bool.{Bool, true, false, cond}
 use mathlib.Core.List.{List, [], _∷_}
 use Prim.Native.Nat.{ℕ, _*_}
 use Rattle.answer.specs.Told.{accepts}
@@ -13,8 +13,9 @@ use Rattle.diagnosis.specs.declared.scores.Record.{Record}
 use Rattle.diagnosis.specs.declared.scores.Scoring.{Scoring}
 use Rattle.diagnosis.specs.House.{scores, houseVerdict}
 
--- The paper's values: a refusal's number (0 where the table is scored), its row and column, and the record.
+-- The paper's values: whether the table is scored; a refusal's number (0 where it is), its row and column; and the record.
 pub record ToldScoring : Type 0 where
+  pub scored : Bool
   pub number : ℕ
   pub row : ℕ
   pub column : ℕ
@@ -22,8 +23,8 @@ pub record ToldScoring : Type 0 where
 
 -- The paper's number and values for each case of the code's enum, and the record beside it.
 abbrev pub toldOutcome : Outcome → Record → ToldScoring
-toldOutcome Scored result = record { number = 0; row = 0; column = 0; result = result }
-toldOutcome (Refused number row column) result = record { number = number; row = row; column = column; result = result }
+toldOutcome Scored result = record { scored = true; number = 0; row = 0; column = 0; result = result }
+toldOutcome (Refused number row column) result = record { scored = false; number = number; row = row; column = column; result = result }
 
 abbrev pub toldScoring : Scoring → ToldScoring
 toldScoring answer = toldOutcome (answer .outcome) (answer .result)

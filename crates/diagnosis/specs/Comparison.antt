@@ -34,8 +34,8 @@ pub record Worse (A B : List ℕ) : Type 0 where
   -- In B every mark of A is marked.
   pub marks : within (marked A) (marked B) ≡ true
 
--- A storey and direction of a house.
-pub record Stands (table : List ℕ) (storey direction : ℕ) : Type 0 where
+-- The house has this storey and direction.
+pub record InHouse (table : List ℕ) (storey direction : ℕ) : Type 0 where
   pub some-storey : 1 ≤ storey
   pub last-storey : storey ≤ storeys table
   pub some-direction : 1 ≤ direction
@@ -53,15 +53,15 @@ scoreAt storey direction = 2 * (storey - 1) + (direction - 1)
 -- stays in its band, B's full score as the program answers it is at most A's, rounding included; where all keep it, B's verdict is no
 -- better".
 pub record NoBetter (A B : List ℕ) : Type 0 where
-  pub before : (storey direction : ℕ) → Stands A storey direction → scoreBefore B storey direction ≤ scoreBefore A storey direction
-  pub full : (storey direction : ℕ) → Stands A storey direction → Kept A B storey direction → fullScore B storey direction ≤ fullScore A storey direction
+  pub before : (storey direction : ℕ) → InHouse A storey direction → scoreBefore B storey direction ≤ scoreBefore A storey direction
+  pub full : (storey direction : ℕ) → InHouse A storey direction → Kept A B storey direction → fullScore B storey direction ≤ fullScore A storey direction
   -- "A verdict is no better when its number isn't lower."
-  pub verdict : ((storey direction : ℕ) → Stands A storey direction → Kept A B storey direction) → houseVerdict A ≤ houseVerdict B
+  pub verdict : ((storey direction : ℕ) → InHouse A storey direction → Kept A B storey direction) → houseVerdict A ≤ houseVerdict B
   -- "the full scores and the verdict are also those in the record of any scoring of the table that isn't refused": of any answers that
   -- meet the promise of `score`.
   pub record-full : (a b : Scoring) → toldScoring a ≡ scoring A → toldScoring b ≡ scoring B
-      → (storey direction : ℕ) → Stands A storey direction → Kept A B storey direction
+      → (storey direction : ℕ) → InHouse A storey direction → Kept A B storey direction
       → getD (b .result .scores) (scoreAt storey direction) 0 ≤ getD (a .result .scores) (scoreAt storey direction) 0
   pub record-verdict : (a b : Scoring) → toldScoring a ≡ scoring A → toldScoring b ≡ scoring B
-      → ((storey direction : ℕ) → Stands A storey direction → Kept A B storey direction)
+      → ((storey direction : ℕ) → InHouse A storey direction → Kept A B storey direction)
       → a .result .verdict ≤ b .result .verdict

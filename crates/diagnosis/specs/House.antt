@@ -17,7 +17,7 @@ use Rattle.method.specs.Score.{score, scoreBeforeLayout, verdict}
 use Rattle.diagnosis.specs.declared.strengths.Held.{Held}
 use Rattle.diagnosis.specs.declared.assessment.Assessment.{Assessment}
 
--- The columns of the house row, and of the parts row.
+-- The numbers of a table, by the columns where they stand. The house row;
 abbrev pub weight : List ℕ → ℕ
 weight table = cell table 0 2
 
@@ -33,31 +33,60 @@ foundation table = cell table 0 5
 abbrev pub age : List ℕ → ℕ
 age table = cell table 0 6
 
-abbrev pub present : List ℕ → ℕ
-present table = cell table (partsRow table) 1
+-- a storey's row, which is that of its number;
+abbrev pub floorArea : List ℕ → ℕ → ℕ
+floorArea table storey = cell table storey 2
 
-abbrev pub marked : List ℕ → ℕ
-marked table = cell table (partsRow table) 2
+abbrev pub shortSide : List ℕ → ℕ → ℕ
+shortSide table storey = cell table storey 3
 
--- The two ends of a storey, a and b. In an ends row the areas stand in columns 3 and 4 and the storeys of the parts in 5 and 6; a wall's
--- place is "1 end a, 2 middle, 3 end b".
+-- a storey's ends in a direction, a and b, as "areas of end quarters a and b" and then "storeys of the part at a, at b";
 abbrev pub endA : ℕ
 endA = 0
 
 abbrev pub endB : ℕ
 endB = 1
 
-abbrev pub place : ℕ → ℕ
-place end = 2 * end + 1
+abbrev pub endArea : List ℕ → ℕ → ℕ → ℕ → ℕ
+endArea table storey direction end = cell table (endsRow table storey direction) (3 + end)
+
+abbrev pub partStoreys : List ℕ → ℕ → ℕ → ℕ → ℕ
+partStoreys table storey direction end = cell table (endsRow table storey direction) (5 + end)
+
+-- a wall, by its row among the walls of its storey, from 0;
+abbrev pub wallDirection : List ℕ → ℕ → ℕ
+wallDirection walls row = cell walls row 2
+
+abbrev pub wallPlace : List ℕ → ℕ → ℕ
+wallPlace walls row = cell walls row 3
+
+abbrev pub wallStrength : List ℕ → ℕ → ℕ
+wallStrength walls row = cell walls row 4
+
+abbrev pub wallLength : List ℕ → ℕ → ℕ
+wallLength walls row = cell walls row 5
+
+abbrev pub wallJoint : List ℕ → ℕ → ℕ
+wallJoint walls row = cell walls row 6
+
+abbrev pub wallType : List ℕ → ℕ → ℕ
+wallType walls row = cell walls row 7
+
+-- and the parts row.
+abbrev pub present : List ℕ → ℕ
+present table = cell table (partsRow table) 1
+
+abbrev pub marked : List ℕ → ℕ
+marked table = cell table (partsRow table) 2
 
 -- Held strength
 
--- What a wall counts, by its row among the walls of its storey.
+-- What a wall counts.
 unfoldable pub share : List ℕ → ℕ → List ℕ → ℕ → ℕ
 share table storey walls row =
-    wallShare (storeys table) storey (foundation table) (cell walls row 7) (cell walls row 6) (cell walls row 4) (cell walls row 5)
+    wallShare (storeys table) storey (foundation table) (wallType walls row) (wallJoint walls row) (wallStrength walls row) (wallLength walls row)
 
--- What those of the first walls of a storey, so many, count that a test takes, in their order; and what these walls hold together.
+-- What those of the first walls of a storey, so many, count that a test takes, each by itself; and what they hold together.
 unfoldable pub sharesWhere : (ℕ → Bool) → (ℕ → ℕ) → ℕ → List ℕ
 sharesWhere test counts zero = []
 sharesWhere test counts (suc n) = sharesWhere test counts n ++ cond (test n) (counts n ∷ []) []
@@ -65,12 +94,15 @@ sharesWhere test counts (suc n) = sharesWhere test counts n ++ cond (test n) (co
 unfoldable pub heldWhere : (ℕ → Bool) → List ℕ → ℕ → List ℕ → ℕ → ℕ
 heldWhere test table storey walls n = heldStrength (sharesWhere test (share table storey walls) n)
 
--- The walls in a direction; and those of them that are solid and stand at an end.
+-- The walls in a direction; and those of them that are solid and stand at an end: "place (1 end a, 2 middle, 3 end b)", "type (1 solid, ..)".
 unfoldable pub inDirection : List ℕ → ℕ → ℕ → Bool
-inDirection walls direction row = eqb (cell walls row 2) direction
+inDirection walls direction row = eqb (wallDirection walls row) direction
+
+abbrev pub place : ℕ → ℕ
+place end = 2 * end + 1
 
 unfoldable pub solidAtEnd : List ℕ → ℕ → ℕ → ℕ → Bool
-solidAtEnd walls direction end row = inDirection walls direction row && eqb (cell walls row 7) 1 && eqb (cell walls row 3) (place end)
+solidAtEnd walls direction end row = inDirection walls direction row && eqb (wallType walls row) 1 && eqb (wallPlace walls row) (place end)
 
 -- "Held strength of a storey and direction is the sum over its walls."
 unfoldable pub held : List ℕ → ℕ → ℕ → ℕ
@@ -78,19 +110,11 @@ held table storey direction =
     let walls = storeyWalls table storey in
     heldWhere (inDirection walls direction) table storey walls (length walls / 8)
 
--- Of an end "its solid walls' held strength; openings don't count".
+-- Of an end "its solid walls' held strength ..; openings don't count".
 unfoldable pub endHeld : List ℕ → ℕ → ℕ → ℕ → ℕ
 endHeld table storey direction end =
     let walls = storeyWalls table storey in
     heldWhere (solidAtEnd walls direction end) table storey walls (length walls / 8)
-
--- The three sums over the first walls of a storey, so many, which one loop keeps.
-abbrev pub heldBy : List ℕ → ℕ → List ℕ → ℕ → ℕ → Held
-heldBy table storey walls direction n = record {
-  all = heldWhere (inDirection walls direction) table storey walls n;
-  a = heldWhere (solidAtEnd walls direction endA) table storey walls n;
-  b = heldWhere (solidAtEnd walls direction endB) table storey walls n;
-}
 
 -- Required strength
 
@@ -98,17 +122,15 @@ heldBy table storey walls direction n = record {
 -- storey's.
 unfoldable pub requiredOf : List ℕ → ℕ → ℕ → ℕ → ℕ
 requiredOf table storey partStoreys area =
-    requiredStrength partStoreys storey (weight table) area (zone table) (ground table) (narrowFactor (storeys table) storey (cell table storey 3))
+    requiredStrength partStoreys storey (weight table) area (zone table) (ground table) (narrowFactor (storeys table) storey (shortSide table storey))
 
--- Of a storey: the storeys are the house's, and its own row is that of its number.
+-- Of a storey: its part is the house.
 unfoldable pub required : List ℕ → ℕ → ℕ
-required table storey = requiredOf table storey (storeys table) (cell table storey 2)
+required table storey = requiredOf table storey (storeys table) (floorArea table storey)
 
 -- "An end uses its own area, its part's number of storeys for the constant, and its storey's other factors."
 unfoldable pub endRequired : List ℕ → ℕ → ℕ → ℕ → ℕ
-endRequired table storey direction end =
-    let row = endsRow table storey direction in
-    requiredOf table storey (cell table row (5 + end)) (cell table row (3 + end))
+endRequired table storey direction end = requiredOf table storey (partStoreys table storey direction end) (endArea table storey direction end)
 
 -- Layout factor
 
@@ -121,12 +143,12 @@ unfoldable pub higherBand : List ℕ → ℕ → ℕ → ℕ
 higherBand table storey direction = max (endBand table storey direction endA) (endBand table storey direction endB)
 
 -- A storey's floor type, where "a void makes floor type 1 into 2 and 2 into 3".
-unfoldable pub floor : List ℕ → ℕ → ℕ
-floor table storey = floorType (cell table storey 4) (cell table storey 5)
+unfoldable pub storeyFloorType : List ℕ → ℕ → ℕ
+storeyFloorType table storey = floorType (cell table storey 4) (cell table storey 5)
 
 unfoldable pub layout : List ℕ → ℕ → ℕ → ℕ
 layout table storey direction =
-    layoutFactor (endBand table storey direction endA) (endBand table storey direction endB) (floor table storey)
+    layoutFactor (endBand table storey direction endA) (endBand table storey direction endB) (storeyFloorType table storey)
 
 -- Deterioration factor
 
@@ -143,15 +165,6 @@ scoreBefore table storey direction = scoreBeforeLayout (held table storey direct
 unfoldable pub fullScore : List ℕ → ℕ → ℕ → ℕ
 fullScore table storey direction =
     score (held table storey direction) (required table storey) (layout table storey direction) (deterioration table)
-
--- What is worked out of a storey and direction.
-abbrev pub assessment : List ℕ → ℕ → ℕ → Assessment
-assessment table storey direction = record {
-  held = held table storey direction;
-  required = required table storey;
-  layout = layout table storey direction;
-  score = fullScore table storey direction;
-}
 
 -- A storey's two scores, "direction 1 (X) then 2 (Y)", and the scores of a house, storey by storey from the ground up.
 abbrev pub storeyScores : List ℕ → ℕ → List ℕ
@@ -171,3 +184,22 @@ leastScore table = leastOf (scores table)
 -- "Verdict by the least score".
 unfoldable pub houseVerdict : List ℕ → ℕ
 houseVerdict table = verdict (leastScore table)
+
+-- What the code keeps
+
+-- The three sums over the first walls of a storey, so many, which one loop keeps.
+abbrev pub heldBy : List ℕ → ℕ → List ℕ → ℕ → ℕ → Held
+heldBy table storey walls direction n = record {
+  all = heldWhere (inDirection walls direction) table storey walls n;
+  a = heldWhere (solidAtEnd walls direction endA) table storey walls n;
+  b = heldWhere (solidAtEnd walls direction endB) table storey walls n;
+}
+
+-- What is worked out for a storey and direction.
+abbrev pub assessment : List ℕ → ℕ → ℕ → Assessment
+assessment table storey direction = record {
+  held = held table storey direction;
+  required = required table storey;
+  layout = layout table storey direction;
+  score = fullScore table storey direction;
+}

@@ -1,4 +1,4 @@
--- The whole program on slices, from a sheet's bytes to its report's: reading, judging, scoring and printing in turn.
+-- The whole program on slices, from a sheet's bytes to its report's or to the refusal: reading, judging, scoring and printing in turn.
 use mathlib.Core.Bool.{cond}
 use mathlib.Core.List.{List}
 use Prim.Native.Nat.{ℕ, _*_}

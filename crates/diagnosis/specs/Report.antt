@@ -34,7 +34,7 @@ requiredUnit = 10000000
 abbrev pub hundredths : Fraction → ℕ
 hundredths f = roundedDown (100 * f .upper) (f .lower)
 
--- The row of a storey and direction, by what is worked out of it.
+-- The row of a storey and direction, by what is worked out for it.
 abbrev pub resultRow : ℕ → ℕ → Assessment → Fraction → List ℕ
 resultRow storey direction found factor =
     6 ∷ storey ∷ direction ∷ roundedDown (found .held) heldUnit ∷ roundedUp (found .required) requiredUnit ∷ found .layout

@@ -1,4 +1,4 @@
-// What is worked out of a storey and direction.
+// What is worked out for a storey and direction.
 use crate::numbers::cell;
 use crate::strengths::held_by;
 use crate::strengths::required_of;
@@ -15,7 +15,7 @@ ghost use Prim.Native.Nat.{_≤_};
 ghost use Rattle.survey.specs.Table.{storeys};
 ghost use Rattle.survey.specs.Judgement.{judging};
 ghost use Rattle.survey.specs.Walls.{storeyWalls};
-ghost use Rattle.diagnosis.specs.House.{endHeld, required, endBand, floor, deterioration, assessment};
+ghost use Rattle.diagnosis.specs.House.{endHeld, required, endBand, storeyFloorType, deterioration, assessment};
 
 // Held strength in 0.000001 kN, required strength in 0.000000001 kN, layout factor in hundredths, score.
 pub struct Assessment {
@@ -26,7 +26,7 @@ pub struct Assessment {
 }
 
 // A storey in both directions.
-pub struct Storey {
+pub struct Directions {
     pub x: Assessment,
     pub y: Assessment,
 }
@@ -56,10 +56,10 @@ fn end_band(table: &[u32], storey: usize, direction: usize, end: usize, holds: u
 }
 
 // A storey's floor type, a void taken into account.
-fn floor(table: &[u32], storey: usize) -> u32
+fn storey_floor_type(table: &[u32], storey: usize) -> u32
     requires { ⌜ judging (now table) .number ≡ 0 ⌝ }
     requires { ⌜ (1 ≤ storey) × (storey ≤ storeys (now table)) ⌝ }
-    ensures { λ r. ⌜ r ≡ floor (now (table .entry)) storey ⌝ }
+    ensures { λ r. ⌜ r ≡ storeyFloorType (now (table .entry)) storey ⌝ }
 {
     floor_type(cell(table, storey, 4), cell(table, storey, 5))
 }
@@ -95,9 +95,9 @@ fn assess(
     let sums = held_by(table, storey as u32, walls, direction as u32);
     let held = sums.all;
     let required = storey_required(table, storey);
-    let one = end_band(table, storey, direction, 0, sums.a);
-    let other = end_band(table, storey, direction, 1, sums.b);
-    let layout = layout_factor(one, other, floor(table, storey));
+    let a = end_band(table, storey, direction, 0, sums.a);
+    let b = end_band(table, storey, direction, 1, sums.b);
+    let layout = layout_factor(a, b, storey_floor_type(table, storey));
     let score = score(held, required, layout, factor);
     Assessment {
         held,
@@ -108,7 +108,7 @@ fn assess(
 }
 
 // Both directions of a storey, from that storey's part of the table.
-pub(crate) fn assess_storey(table: &[u32], factor: Fraction, storey: usize) -> Storey
+pub(crate) fn assess_storey(table: &[u32], factor: Fraction, storey: usize) -> Directions
     requires { ⌜ judging (now table) .number ≡ 0 ⌝ }
     requires { ⌜ factor ≡ deterioration (now table) ⌝ }
     requires { ⌜ (1 ≤ storey) × (storey ≤ storeys (now table)) ⌝ }
@@ -118,5 +118,5 @@ pub(crate) fn assess_storey(table: &[u32], factor: Fraction, storey: usize) -> S
     let walls = storey_run(table, storey as u32);
     let x = assess(table, walls, factor, storey, 1);
     let y = assess(table, walls, factor, storey, 2);
-    Storey { x, y }
+    Directions { x, y }
 }

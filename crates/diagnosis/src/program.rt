@@ -1,5 +1,5 @@
-// The whole program on slices: from a sheet's bytes to its report's.
-use crate::reports::report;
+// The whole program on slices: from a sheet's bytes to its report's, or to the refusal.
+use crate::reports;
 use answer::Answer;
 use answer::MOST_ROWS;
 use answer::ROW;
@@ -13,34 +13,27 @@ ghost use Rattle.diagnosis.specs.Program.{mostNumbers, diagnosing, after
 const NUMBERS: usize = MOST_ROWS * ROW;
 
 // Diagnoses a sheet by way of a table that has room for any.
-fn diagnose_by(sheet: &[u8], table: &mut [u32], bytes: &mut [u8]) -> Answer
+fn diagnose_by(sheet: &[u8], table: &mut [u32], report: &mut [u8]) -> Answer
     requires { ⌜ length (now table) ≡ mostNumbers ⌝ }
-    ensures { λ r. ⌜ told r ≡ diagnosing (now (sheet .entry)) (length (now (bytes .entry))) ⌝ }
-    ensures { λ _. ⌜ now (bytes .exit) ≡ afterDiagnosing (now (sheet .entry)) (now (bytes .entry)) ⌝ }
+    ensures { λ r. ⌜ told r ≡ diagnosing (now (sheet .entry)) (length (now (report .entry))) ⌝ }
+    ensures { λ _. ⌜ now (report .exit) ≡ afterDiagnosing (now (sheet .entry)) (now (report .entry)) ⌝ }
 {
-    match read(sheet, table) {
-        Answer::Refused {
-            number,
-            row,
-            column,
-        } => Answer::Refused {
-            number,
-            row,
-            column,
-        },
+    let answer = read(sheet, table);
+    match answer {
+        Answer::Refused { .. } => answer,
         Answer::Count(rows) => {
             let numbers = ROW * rows as usize;
-            report(&table[0..numbers], bytes)
+            reports::report(&table[0..numbers], report)
         }
     }
 }
 
 // Diagnoses any sheet, and writes its report into lent bytes: the count of bytes written, or the
-// refusal of reading, judging or lending. Bytes after them stay, and a refusal changes none.
-pub fn diagnose(sheet: &[u8], bytes: &mut [u8]) -> Answer
-    ensures { λ r. ⌜ told r ≡ diagnosing (now (sheet .entry)) (length (now (bytes .entry))) ⌝ }
-    ensures { λ _. ⌜ now (bytes .exit) ≡ afterDiagnosing (now (sheet .entry)) (now (bytes .entry)) ⌝ }
+// refusal of reading or judging, or 9. Bytes after them stay, and a refusal changes none.
+pub fn diagnose(sheet: &[u8], report: &mut [u8]) -> Answer
+    ensures { λ r. ⌜ told r ≡ diagnosing (now (sheet .entry)) (length (now (report .entry))) ⌝ }
+    ensures { λ _. ⌜ now (report .exit) ≡ afterDiagnosing (now (sheet .entry)) (now (report .entry)) ⌝ }
 {
     let mut table = [0u32; NUMBERS];
-    diagnose_by(sheet, &mut table, bytes)
+    diagnose_by(sheet, &mut table, report)
 }

@@ -1,6 +1,6 @@
 // A table's report, in the sheet's own columns, and the line of a refusal.
 use crate::assessment::Assessment;
-use crate::assessment::Storey;
+use crate::assessment::Directions;
 use crate::assessment::assess_storey;
 use crate::assessment::deterioration;
 use crate::numbers::cell;
@@ -15,6 +15,7 @@ use sheet::print_line;
 use sheet::print_rows;
 use survey::judge;
 ghost use mathlib.Core.Path.{_≡_};
+ghost use mathlib.Core.List.{_++_};
 ghost use Prim.Native.Nat.{_≤_, _<_, _*_};
 ghost use lib.ListN.{length};
 ghost use Rattle.answer.specs.Told.{told};
@@ -23,8 +24,8 @@ ghost use Rattle.method.specs.Held.{mostHeld};
 ghost use Rattle.method.specs.Required.{mostRequired};
 ghost use Rattle.survey.specs.Table.{storeys};
 ghost use Rattle.survey.specs.Judgement.{judging};
-ghost use Rattle.diagnosis.specs.House.{assessment, deterioration, leastScore};
-ghost use Rattle.diagnosis.specs.Report.{resultRow, storeyRows, resultRows, verdictRow, reportLines, reportBytes, reporting, afterReporting, refusalLine};
+ghost use Rattle.diagnosis.specs.House.{leastScore};
+ghost use Rattle.diagnosis.specs.Report.{resultRow, resultRows, verdictRow, reportLines, reportBytes, reporting, afterReporting, refusalLine};
 
 // 0.01 kN in the units of held and of required strength.
 const HELD_UNIT: u64 = 10_000;
@@ -32,9 +33,9 @@ const HELD_UNIT: u64 = 10_000;
 const REQUIRED_UNIT: u64 = 10_000_000;
 
 // The numbers of the longest report: two rows for each of three storeys, and the verdict's.
-const REPORT: usize = 56;
+const REPORT_NUMBERS: usize = ROW * 7;
 
-// The row of a storey and direction, by what is worked out of it and the deterioration factor.
+// The row of a storey and direction, by what is worked out for it and the deterioration factor.
 fn result_row(storey: u32, direction: u32, found: Assessment, factor: Fraction) -> [u32; 8]
     requires { ⌜ (found .held ≤ mostHeld) × (found .required ≤ mostRequired) × (0 < factor .lower) ⌝ }
     ensures { λ r. ⌜ r ≡ resultRow storey direction found factor ⌝ }
@@ -74,19 +75,16 @@ fn put_row(row: [u32; 8], to: &mut [u32])
 }
 
 // Writes a storey's two rows.
-fn fill_storey(table: &[u32], factor: Fraction, storey: usize, found: Storey, rows: &mut [u32])
-    requires { ⌜ judging (now table) .number ≡ 0 ⌝ }
-    requires { ⌜ factor ≡ deterioration (now table) ⌝ }
-    requires { ⌜ (1 ≤ storey) × (storey ≤ storeys (now table)) ⌝ }
-    requires { ⌜ (found .x ≡ assessment (now table) storey 1) × (found .y ≡ assessment (now table) storey 2) ⌝ }
+fn fill_storey(storey: u32, found: Directions, factor: Fraction, rows: &mut [u32])
+    requires { ⌜ (found .x .held ≤ mostHeld) × (found .x .required ≤ mostRequired) × (0 < factor .lower) ⌝ }
+    requires { ⌜ (found .y .held ≤ mostHeld) × (found .y .required ≤ mostRequired) × (0 < factor .lower) ⌝ }
     requires { ⌜ length (now rows) ≡ 16 ⌝ }
-    ensures { λ _. ⌜ now (rows .exit) ≡ storeyRows (now (table .entry)) storey ⌝ }
+    ensures { λ _. ⌜ now (rows .exit) ≡ resultRow storey 1 (found .x) factor ++ resultRow storey 2 (found .y) factor ⌝ }
 {
-    let number = storey as u32;
     let x = found.x;
     let y = found.y;
-    put_row(result_row(number, 1, x, factor), &mut rows[0..ROW]);
-    put_row(result_row(number, 2, y, factor), &mut rows[ROW..2 * ROW]);
+    put_row(result_row(storey, 1, x, factor), &mut rows[0..ROW]);
+    put_row(result_row(storey, 2, y, factor), &mut rows[ROW..2 * ROW]);
 }
 
 // Writes the rows of every storey and direction, and answers the least score.
@@ -104,10 +102,9 @@ fn fill_results(table: &[u32], rows: &mut [u32]) -> u32
         let found = assess_storey(table, factor, below + 1);
         let from = 2 * ROW * below;
         fill_storey(
-            table,
-            factor,
-            below + 1,
+            below as u32 + 1,
             found,
+            factor,
             &mut rows[from..from + 2 * ROW],
         );
         least = lesser(least, lesser(found.x.score, found.y.score));
@@ -137,17 +134,17 @@ fn report_accepted(table: &[u32], report: &mut [u8]) -> Answer
     ensures { λ _. ⌜ now (report .exit) ≡ afterReporting (now (table .entry)) (now (report .entry)) ⌝ }
 {
     let lines = 2 * cell(table, 0, 1) as usize + 1;
-    let bytes = LINE * lines;
-    if report.len() < bytes {
+    let length = LINE * lines;
+    if report.len() < length {
         return Answer::Refused {
             number: LENT_SPACE_SHORT,
             row: 0,
             column: 0,
         };
     }
-    let mut rows = [0u32; REPORT];
+    let mut rows = [0u32; REPORT_NUMBERS];
     print_report(table, &mut rows, report);
-    Answer::Count(bytes as u32)
+    Answer::Count(length as u32)
 }
 
 // Writes any table's report into lent bytes: the count of bytes written, or the refusal. Bytes after
@@ -156,21 +153,14 @@ pub fn report(table: &[u32], report: &mut [u8]) -> Answer
     ensures { λ r. ⌜ told r ≡ reporting (now (table .entry)) (length (now (report .entry))) ⌝ }
     ensures { λ _. ⌜ now (report .exit) ≡ afterReporting (now (table .entry)) (now (report .entry)) ⌝ }
 {
-    match judge(table) {
-        Answer::Refused {
-            number,
-            row,
-            column,
-        } => Answer::Refused {
-            number,
-            row,
-            column,
-        },
+    let judged = judge(table);
+    match judged {
+        Answer::Refused { .. } => judged,
         Answer::Count(_) => report_accepted(table, report),
     }
 }
 
-// The line of a refusal, by value.
+// The line of a refusal, by value. Of a number over 99,999,999 the last eight digits are printed.
 pub fn refusal_line(number: u32, row: u32, column: u32) -> [u8; 65]
     ensures { λ r. ⌜ r ≡ refusalLine number row column ⌝ }
 {

@@ -16,7 +16,7 @@ pub struct Record {
     pub scores: [u32; 6],
     // How many scores there are: two a storey.
     pub count: u32,
-    // 1 to 4.
+    // 1 to 4; 0 where the table is refused.
     pub verdict: u32,
 }
 
@@ -49,15 +49,15 @@ fn record_of(table: &[u32]) -> Record
     requires { ⌜ judging (now table) .number ≡ 0 ⌝ }
     ensures { λ r. ⌜ r ≡ recordOf (now (table .entry)) ⌝ }
 {
-    let factor = deterioration(table);
     let storeys = cell(table, 0, 1) as usize;
+    let factor = deterioration(table);
     let mut scores = [0u32; 6];
     let mut least = 999;
     let mut below = 0;
     while below < storeys {
-        let storey = assess_storey(table, factor, below + 1);
-        let x = storey.x.score;
-        let y = storey.y.score;
+        let found = assess_storey(table, factor, below + 1);
+        let x = found.x.score;
+        let y = found.y.score;
         scores[2 * below] = x;
         scores[2 * below + 1] = y;
         least = lesser(least, lesser(x, y));

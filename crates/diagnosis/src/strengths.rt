@@ -56,34 +56,21 @@ fn with_wall(
         return sums;
     }
     let counted = share(table, storey, walls, row);
-    let all = sums.all + counted;
+    let mut next = sums;
+    next.all = sums.all + counted;
     if cell(walls, row, 7) != 1 {
-        return Held {
-            all,
-            a: sums.a,
-            b: sums.b,
-        };
+        return next;
     }
     let place = cell(walls, row, 3);
     if place == 1 {
-        return Held {
-            all,
-            a: sums.a + counted,
-            b: sums.b,
-        };
+        next.a = sums.a + counted;
+        return next;
     }
     if place == 3 {
-        return Held {
-            all,
-            a: sums.a,
-            b: sums.b + counted,
-        };
+        next.b = sums.b + counted;
+        return next;
     }
-    Held {
-        all,
-        a: sums.a,
-        b: sums.b,
-    }
+    next
 }
 
 // What the walls of a storey hold in a direction.

@@ -39,7 +39,7 @@ groundFactor ground = cond (ltb ground 2) 10 15
 unfoldable pub narrowFactor : ℕ → ℕ → ℕ → ℕ
 narrowFactor storeys storey side = cond (leb 2 storeys && eqb storey 1 && ltb side 4000) 113 100
 
--- "Constant in 0.01 kN/m² × area × zone × ground × narrow factor in hundredths." "An end uses its own area, its part's number of storeys
+-- "Constant in 0.01 kN/m² × area × zone × ground (..) × narrow factor in hundredths." "An end uses its own area, its part's number of storeys
 -- for the constant, and its storey's other factors": so for a storey the storeys are the house's, for an end its part's.
 unfoldable pub requiredStrength : ℕ → ℕ → ℕ → ℕ → ℕ → ℕ → ℕ → ℕ
 requiredStrength storeys storey weight area zone ground narrow = constant storeys storey weight * area * zone * groundFactor ground * narrow

@@ -14,6 +14,6 @@ joined (suc n) f = joined n f ++ f n
 unfoldable pub part : ℕ → ℕ → List ℕ → List ℕ
 part size i list = take size (drop (size * i) list)
 
--- A row of eight numbers, each at most 99,999,999, printed.
+-- A row of eight numbers printed. Of a number over 99,999,999 these are the last eight digits.
 unfoldable pub line : List ℕ → List ℕ
 line row = joined 8 (λ j. printed (getD row j 0)) ++ (10 ∷ [])

@@ -36,8 +36,8 @@ end-band-requires-2 c κs =
     let stands = start .pre .1 .1 .1 in
     (start .pre .0, (stands .0, ((stands .1 .0, stands .1 .1, omega arith), sums-b _ _ _ (at-held .held-by .ensures) (start .pre .1 .0))))
 
-floor-requires : tie.Need-floor-requires
-floor-requires c κs = search needs
+storey-floor-type-requires : tie.Need-storey-floor-type-requires
+storey-floor-type-requires c κs = search needs
 
 layout-factor-requires : tie.Need-layout-factor-requires
 layout-factor-requires c κs = search needs
@@ -49,7 +49,7 @@ laid-out : (c : tie.After-layout-factor) → c .layout-factor .result ≡ layout
 unfolding layout
 laid-out c =
     let at-other = c .before .before in
-    rw (← at-other .before .end-band .ensures, ← at-other .end-band2 .ensures, ← c .before .floor .ensures) (c .layout-factor .ensures)
+    rw (← at-other .before .end-band .ensures, ← at-other .end-band2 .ensures, ← c .before .storey-floor-type .ensures) (c .layout-factor .ensures)
 
 returns : tie.Need-returns
 returns c =
@@ -69,7 +69,7 @@ assess-spec =
     storey-required-requires
     end-band-requires
     end-band-requires-2
-    floor-requires
+    storey-floor-type-requires
     layout-factor-requires
     score-requires
     returns)

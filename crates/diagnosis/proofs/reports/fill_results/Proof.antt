@@ -10,10 +10,12 @@ use Rattle.answer.proofs.Parts.{lent-part, part-size}
 use Rattle.sheet.specs.Sheet.{over}
 use Rattle.sheet.specs.Line.{joined}
 use Rattle.sheet.proofs.Lists.{over-length}
+use Rattle.survey.specs.Table.{storeys}
 use Rattle.diagnosis.specs.declared.assessment.Assessment.{Assessment}
 use Rattle.diagnosis.specs.Report.{resultRows}
 use Rattle.diagnosis.specs.House.{scores, leastOf, leastScore}
-use Rattle.diagnosis.proofs.Rows.{rowsOf, rows-of-length, storey-more}
+use Rattle.diagnosis.proofs.Rows.{storey-rows, rowsOf, rows-of-length, storey-more}
+use Rattle.diagnosis.proofs.Within.{row-fits}
 use Rattle.diagnosis.proofs.Listed.{scoresOf, least-score-more}
 use Rattle.diagnosis.proofs.Standing.{storeys-few, house-inside}
 use Rattle.diagnosis.proofs.reports.fill_results.Statement.{statement}
@@ -55,6 +57,9 @@ mul-from c = search needs
 mul-from-2 : tie.Need-mul-from-2 Inv-loop μ-loop
 mul-from-2 c = search needs
 
+cast-fill-storey : tie.Need-cast-fill-storey Inv-loop μ-loop
+cast-fill-storey c = search needs
+
 add-fill-storey : tie.Need-add-fill-storey Inv-loop μ-loop
 add-fill-storey c = search needs
 
@@ -80,9 +85,13 @@ fill-storey-requires : tie.Need-fill-storey-requires Inv-loop μ-loop
 fill-storey-requires c κs =
     let at-loop = c .before .before .before in
     let at-factor = at-loop .before .before in
+    let start = at-factor .before .before .before in
     let n = at-loop .loop .below in
+    let found = c .before .assess-storey .ensures in
+    let factor = at-factor .deterioration .ensures in
+    let last : n + 1 ≤ storeys (now (start .args .table)) = omega (arith, at-loop .before .cell .ensures) in
     let part = ap length (lent-part (16 * n) 16 (at-loop .loop .rows)) ∙ part-size (16 * n) 16 (at-loop .loop .rows) (omega arith) in
-    (at-factor .before .before .before .pre .0, (at-factor .deterioration .ensures, ((omega arith, omega (arith, at-loop .before .cell .ensures)), (c .before .assess-storey .ensures, part))))
+    (row-fits _ (start .pre .0) _ 1 (omega arith) last (found .0) factor, (row-fits _ (start .pre .0) _ 2 (omega arith) last (found .1) factor, part))
 
 lesser-requires : tie.Need-lesser-requires Inv-loop μ-loop
 lesser-requires c κs = search needs
@@ -104,9 +113,10 @@ loop-again c =
     let n = at-loop .loop .below in
     let inv = at-loop .loop .inv in
     let found = at-storey .before .before .assess-storey .ensures in
+    let factor = at-loop .before .before .deterioration .ensures in
     let x = ap (λ (f : Assessment). f .score) (found .0) in
     let y = ap (λ (f : Assessment). f .score) (found .1) in
-    let written = storey-more (now (start .args .table)) (now (start .args .rows)) n (omega arith) (inv .4) (at-storey .fill-storey .ensures) in
+    let written = storey-more (now (start .args .table)) (now (start .args .rows)) n (omega arith) (inv .4) (at-storey .fill-storey .ensures ∙ storey-rows _ (n + 1) (found .0) (found .1) factor) in
     (inv .0, search needs, inv .2, ap length written ∙ over-length _ _ (omega (arith, rows-of-length (now (start .args .table)) (n + 1))), written, c .lesser2 .ensures ∙ rw (c .before .lesser .ensures) (least-score-more _ n x y (inv .5)))
 
 same-length : tie.Need-same-length Inv-loop μ-loop
@@ -134,6 +144,7 @@ fill-results-spec =
     assess-storey-requires
     mul-from
     mul-from-2
+    cast-fill-storey
     add-fill-storey
     mul-fill-storey
     add-fill-storey-2

@@ -8,17 +8,17 @@ use Rattle.diagnosis.proofs.reports.report.Tie as tie
 judge-requires : tie.Need-judge-requires
 judge-requires c κs = search needs
 
-enum-known-number : tie.Need-enum-known-number
-enum-known-number c = search needs
-
 enum-told : tie.Need-enum-told
 enum-told c = search needs
 
+enum-told-2 : tie.Need-enum-told-2
+enum-told-2 c = search needs
+
 report-accepted-requires : tie.Need-report-accepted-requires
-report-accepted-requires c κs = judge-accepted _ (c .before .before .before .judge .ensures) (c .before .enum-told .given .1) .0
+report-accepted-requires c κs = judge-accepted _ (c .before .before .before .judge .ensures) (c .before .enum-told2 .given .1) .0
 
 returns : tie.Need-returns
-returns c = report-refused _ _ (c .before .before .before .judge .ensures) (c .before .number .given .1)
+returns c = report-refused _ _ _ (c .before .before .judge .ensures) (c .enum-told .given .1)
 
 same-length : tie.Need-same-length
 same-length c = search needs
@@ -31,8 +31,8 @@ report-spec =
     tie.close
     (tie.spec
     judge-requires
-    enum-known-number
     enum-told
+    enum-told-2
     report-accepted-requires
     returns
     same-length

@@ -22,8 +22,8 @@ mul-lines c = search needs
 add-lines : tie.Need-add-lines
 add-lines c = search needs
 
-mul-bytes : tie.Need-mul-bytes
-mul-bytes c = search needs
+mul-length : tie.Need-mul-length
+mul-length c = search needs
 
 returns : tie.Need-returns
 returns c =
@@ -56,7 +56,7 @@ report-accepted-spec =
     cast-lines
     mul-lines
     add-lines
-    mul-bytes
+    mul-length
     returns
     slice-aggregate-print-report
     print-report-requires

@@ -15,32 +15,31 @@ use Rattle.diagnosis.proofs.scores.record_of.Statement.{statement}
 use Rattle.diagnosis.proofs.scores.record_of.Tie as tie
 
 abbrev Inv-loop : tie.InvT-loop
-Inv-loop table factor storeys scores₀ least₀ below₀ scores least below = (storeys ≤ 3) × (below ≤ storeys) × (scores ≡ over noScores (scoresOf table below)) × (least ≡ leastOf (scoresOf table below))
+Inv-loop table storeys factor scores₀ least₀ below₀ scores least below = (storeys ≤ 3) × (below ≤ storeys) × (scores ≡ over noScores (scoresOf table below)) × (least ≡ leastOf (scoresOf table below))
 
 abbrev μ-loop : tie.MeasureT-loop
-μ-loop table factor storeys scores₀ least₀ below₀ scores least below = storeys - below
-
-deterioration-requires : tie.Need-deterioration-requires Inv-loop μ-loop
-deterioration-requires c κs = search needs
+μ-loop table storeys factor scores₀ least₀ below₀ scores least below = storeys - below
 
 cell-requires : tie.Need-cell-requires Inv-loop μ-loop
-cell-requires c κs = (house-inside _ (c .before .before .pre), omega arith)
+cell-requires c κs = (house-inside _ (c .before .pre), omega arith)
 
 cast-storeys : tie.Need-cast-storeys Inv-loop μ-loop
 cast-storeys c = search needs
 
+deterioration-requires : tie.Need-deterioration-requires Inv-loop μ-loop
+deterioration-requires c κs = search needs
+
 loop-holds : tie.Need-loop-holds Inv-loop μ-loop
 unfolding over joined leastOf
-loop-holds c = (omega (arith, c .cell .ensures, storeys-few _ (c .before .before .before .pre)), search needs, refl, refl)
+loop-holds c = (omega (arith, c .before .cell .ensures, storeys-few _ (c .before .before .before .pre)), search needs, refl, refl)
 
 add-assess-storey : tie.Need-add-assess-storey Inv-loop μ-loop
 add-assess-storey c = search needs
 
 assess-storey-requires : tie.Need-assess-storey-requires Inv-loop μ-loop
 assess-storey-requires c κs =
-    let at-factor = c .before .before .before in
-    let start = at-factor .before .before in
-    (start .pre, (at-factor .deterioration .ensures, (omega arith, omega (arith, c .before .before .cell .ensures))))
+    let at-factor = c .before .before in
+    (at-factor .before .before .before .pre, (at-factor .deterioration .ensures, (omega arith, omega (arith, at-factor .before .cell .ensures))))
 
 mul-scores : tie.Need-mul-scores Inv-loop μ-loop
 mul-scores c = search needs
@@ -97,8 +96,8 @@ returns : tie.Need-returns Inv-loop μ-loop
 unfolding recordOf houseVerdict leastScore scores
 returns c =
     let at-loop = c .before .before in
-    let counted = at-loop .before .cell .ensures in
-    let all : at-loop .loop .below ≡ at-loop .before .cell .result = omega arith in
+    let counted = at-loop .before .before .cell .ensures in
+    let all : at-loop .loop .below ≡ at-loop .before .before .cell .result = omega arith in
     rw (c .verdict .ensures, at-loop .loop .inv .2, at-loop .loop .inv .3, all, counted)
 
 pub record-of-spec : {M : Type 1} → statement M
@@ -107,9 +106,9 @@ record-of-spec =
     (tie.spec
     Inv-loop
     μ-loop
-    deterioration-requires
     cell-requires
     cast-storeys
+    deterioration-requires
     loop-holds
     add-assess-storey
     assess-storey-requires

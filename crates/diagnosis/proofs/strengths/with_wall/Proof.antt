@@ -29,8 +29,8 @@ counted-most c = rw (c .share .ensures) (share-at-most _ _ _ _ (c .before .befor
 room : (c : tie.After-share) {sum : ℕ} → sum ≤ mostHeld → Fits w64 (sum + c .share .result)
 room c most = omega (arith, counted-most c)
 
-add-all : tie.Need-add-all
-add-all c = room (c .before) (c .before .before .before .before .before .before .pre .1 .1 .0 .0)
+add-next : tie.Need-add-next
+add-next c = room (c .before) (c .before .before .before .before .before .before .pre .1 .1 .0 .0)
 
 cell-requires-2 : tie.Need-cell-requires-2
 cell-requires-2 c κs = search needs
@@ -48,8 +48,8 @@ returns-2 c =
 cell-requires-3 : tie.Need-cell-requires-3
 cell-requires-3 c κs = search needs
 
-add-t12 : tie.Need-add-t12
-add-t12 c = room (c .before .before .before .before .before .before) (c .before .before .before .before .before .before .before .before .before .before .before .pre .1 .1 .0 .1)
+add-next-2 : tie.Need-add-next-2
+add-next-2 c = room (c .before .before .before .before .before .before) (c .before .before .before .before .before .before .before .before .before .before .before .pre .1 .1 .0 .1)
 
 returns-3 : tie.Need-returns-3
 returns-3 c =
@@ -58,8 +58,8 @@ returns-3 c =
     let at-if1 = at-share .before in
     at-a _ _ _ _ _ (at-if1 .before .before .before .before .pre .1 .1 .1) (at-share .share .ensures) (same-direction at-if1) (sym (at-if2 .before .cell2 .ensures) ∙ at-if2 .if2 .left) (sym (c .before .before .cell3 .ensures) ∙ c .before .if3 .taken)
 
-add-t13 : tie.Need-add-t13
-add-t13 c = room (c .before .before .before .before .before .before .before) (c .before .before .before .before .before .before .before .before .before .before .before .before .pre .1 .1 .0 .2)
+add-next-3 : tie.Need-add-next-3
+add-next-3 c = room (c .before .before .before .before .before .before .before) (c .before .before .before .before .before .before .before .before .before .before .before .before .pre .1 .1 .0 .2)
 
 returns-4 : tie.Need-returns-4
 returns-4 c =
@@ -82,12 +82,12 @@ with-wall-spec =
     cell-requires
     returns
     share-requires
-    add-all
+    add-next
     cell-requires-2
     returns-2
     cell-requires-3
-    add-t12
+    add-next-2
     returns-3
-    add-t13
+    add-next-3
     returns-4
     returns-5)

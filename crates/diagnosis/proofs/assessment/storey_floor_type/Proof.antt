@@ -1,10 +1,10 @@
--- `diagnosis::assessment::floor` meets its contract. Assumes nothing.
+-- `diagnosis::assessment::storey_floor_type` meets its contract. Assumes nothing.
 use native.Mathlib.Omega.{arith}
 use borrow.Author.Needs.{needs}
-use Rattle.diagnosis.specs.House.{floor}
+use Rattle.diagnosis.specs.House.{storeyFloorType}
 use Rattle.diagnosis.proofs.Standing.{storey-inside}
-use Rattle.diagnosis.proofs.assessment.floor.Statement.{statement}
-use Rattle.diagnosis.proofs.assessment.floor.Tie as tie
+use Rattle.diagnosis.proofs.assessment.storey_floor_type.Statement.{statement}
+use Rattle.diagnosis.proofs.assessment.storey_floor_type.Tie as tie
 
 cell-requires : tie.Need-cell-requires
 cell-requires c κs = (storey-inside _ (c .before .pre .0) (c .before .pre .1 .1), omega arith)
@@ -16,8 +16,8 @@ floor-type-requires : tie.Need-floor-type-requires
 floor-type-requires c κs = search needs
 
 returns : tie.Need-returns
-unfolding floor
+unfolding storeyFloorType
 returns c = rw (← c .before .before .cell .ensures, ← c .before .cell2 .ensures) (c .floor-type .ensures)
 
-pub floor-spec : {M : Type 1} → statement M
-floor-spec = tie.close (tie.spec cell-requires cell-requires-2 floor-type-requires returns)
+pub storey-floor-type-spec : {M : Type 1} → statement M
+storey-floor-type-spec = tie.close (tie.spec cell-requires cell-requires-2 floor-type-requires returns)
