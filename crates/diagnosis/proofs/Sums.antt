@@ -19,108 +19,93 @@ use Rattle.method.proofs.Shares.{mostShare, share-most, held-append}
 use Rattle.diagnosis.specs.declared.strengths.Held.{Held}
 use Rattle.diagnosis.specs.House.{foundation, endA, endB, place, share, sharesWhere, heldWhere, inDirection, solidAtEnd, held, endHeld, heldBy}
 
--- One wall more, which a test takes or leaves.
-module _ (test : ℕ → Bool) (table : List ℕ) (storey : ℕ) (walls : List ℕ) (n : ℕ) where
-  held-taken : test n ≡ true → heldWhere test table storey walls (n + 1) ≡ heldWhere test table storey walls n + share table storey walls n
+module _ (table : List ℕ) (storey : ℕ) (walls : List ℕ) where
+  abbrev counts : ℕ → ℕ
+  counts = share table storey walls
+
+  abbrev sum : (ℕ → Bool) → ℕ → ℕ
+  sum test n = heldWhere test table storey walls n
+
+  -- No wall yet; and one wall more, which a test takes or leaves.
+  none : (test : ℕ → Bool) → sum test 0 ≡ 0
   unfolding heldWhere sharesWhere heldStrength
-  held-taken e = rw (add-one, e, held-append, add-zero)
+  none test = refl
 
-  held-left : test n ≡ false → heldWhere test table storey walls (n + 1) ≡ heldWhere test table storey walls n
+  taken : (test : ℕ → Bool) (n : ℕ) → test n ≡ true → sum test (n + 1) ≡ sum test n + counts n
+  unfolding heldWhere sharesWhere heldStrength
+  taken test n e = rw (add-one, e, held-append, add-zero)
+
+  left : (test : ℕ → Bool) (n : ℕ) → test n ≡ false → sum test (n + 1) ≡ sum test n
   unfolding heldWhere sharesWhere
-  held-left e = rw (add-one, e, append-nil)
+  left test n e = rw (add-one, e, append-nil)
 
--- No wall yet.
-held-none : (test : ℕ → Bool) (table : List ℕ) (storey : ℕ) (walls : List ℕ) → heldWhere test table storey walls 0 ≡ 0
-unfolding heldWhere sharesWhere heldStrength
-held-none test table storey walls = refl
+  -- A wall of at most 20 m counts at most so much, and so many of them hold at most so much.
+  pub share-at-most : (row : ℕ) → cell walls row 5 ≤ 20000 → counts row ≤ mostShare
+  unfolding share
+  share-at-most row short =
+      share-most (storeys table) storey (foundation table) (cell walls row 6) (cell walls row 4) (cell walls row 5) short (cell walls row 7)
 
-pub no-walls : (table : List ℕ) (storey : ℕ) (walls : List ℕ) (direction : ℕ) → record { all = 0; a = 0; b = 0 } ≡ heldBy table storey walls direction 0
-unfolding heldWhere sharesWhere heldStrength
-no-walls table storey walls direction = refl
+  held-at-most : (test : ℕ → Bool) (n : ℕ) → ((k : ℕ) → k < n → cell walls k 5 ≤ 20000) → sum test n ≤ n * mostShare
+  held-at-most test zero short = rw (none test) (lit≤ tt)
+  held-at-most test (suc n) short =
+      rw (← add-one) (go (test n) refl (share-at-most n (short n (omega arith))) (held-at-most test n (λ k l. short k (omega arith))))
+    where
+      go : (b : Bool) → test n ≡ b → counts n ≤ mostShare → sum test n ≤ n * mostShare → sum test (n + 1) ≤ (n + 1) * mostShare
+      go true e last h = rw (taken test n e) (omega arith)
+      go false e last h = rw (left test n e) (omega arith)
 
--- The sums that the loop keeps, with one wall more.
-module _ (table : List ℕ) (storey : ℕ) (walls : List ℕ) (direction row : ℕ) where
-  taken : (test : ℕ → Bool) → test row ≡ true → heldWhere test table storey walls (row + 1) ≡ heldWhere test table storey walls row + share table storey walls row
-  taken test e = held-taken test table storey walls row e
+  module _ (direction : ℕ) where
+    abbrev along : ℕ → Bool
+    along = inDirection walls direction
 
-  left : (test : ℕ → Bool) → test row ≡ false → heldWhere test table storey walls (row + 1) ≡ heldWhere test table storey walls row
-  left test e = held-left test table storey walls row e
+    abbrev solid-at : ℕ → ℕ → Bool
+    solid-at = solidAtEnd walls direction
 
-  -- What the tests say of a wall in another direction, of an opening, and of a solid wall by its place.
-  in-other : (cell walls row 2 ≡ direction → ⊥) → inDirection walls direction row ≡ false
-  unfolding inDirection
-  in-other other = ne-eqb (cell walls row 2) direction other
+    pub no-walls : record { all = 0; a = 0; b = 0 } ≡ heldBy table storey walls direction 0
+    no-walls = rw (none along, none (solid-at endA), none (solid-at endB))
 
-  end-other : (end : ℕ) → (cell walls row 2 ≡ direction → ⊥) → solidAtEnd walls direction end row ≡ false
-  unfolding solidAtEnd
-  end-other end other = rw (in-other other)
+    -- The sums that the loop keeps, with one wall more. What the tests say of it goes by its direction, its type and its place.
+    module _ (row : ℕ) {sums : Held} (so-far : sums ≡ heldBy table storey walls direction row) where
+      abbrev Next : ℕ → ℕ → ℕ → Type 0
+      Next all a b = record { all = all; a = a; b = b } ≡ heldBy table storey walls direction (row + 1)
 
-  in-same : cell walls row 2 ≡ direction → inDirection walls direction row ≡ true
-  unfolding inDirection
-  in-same same = eq-eqb (cell walls row 2) direction same
+      pub other-direction : (cell walls row 2 ≡ direction → ⊥) → sums ≡ heldBy table storey walls direction (row + 1)
+      unfolding inDirection solidAtEnd
+      other-direction other =
+          let elsewhere = ne-eqb (cell walls row 2) direction other in
+          rw (left along row elsewhere, left (solid-at endA) row (rw elsewhere), left (solid-at endB) row (rw elsewhere)) so-far
 
-  end-opening : (end : ℕ) → cell walls row 2 ≡ direction → (cell walls row 7 ≡ 1 → ⊥) → solidAtEnd walls direction end row ≡ false
-  unfolding solidAtEnd
-  end-opening end same hollow = rw (in-same same, ne-eqb (cell walls row 7) 1 hollow)
+      module _ {counted : ℕ} (e : counted ≡ counts row) (same : cell walls row 2 ≡ direction) where
+        in-direction : along row ≡ true
+        unfolding inDirection
+        in-direction = eq-eqb (cell walls row 2) direction same
 
-  end-elsewhere : (end : ℕ) → cell walls row 2 ≡ direction → cell walls row 7 ≡ 1 → (cell walls row 3 ≡ place end → ⊥) → solidAtEnd walls direction end row ≡ false
-  unfolding solidAtEnd
-  end-elsewhere end same solid elsewhere = rw (in-same same, eq-eqb (cell walls row 7) 1 solid, ne-eqb (cell walls row 3) (place end) elsewhere)
+        not-solid : (end : ℕ) → (cell walls row 7 ≡ 1 → ⊥) → solid-at end row ≡ false
+        unfolding solidAtEnd
+        not-solid end hollow = rw (in-direction, ne-eqb (cell walls row 7) 1 hollow)
 
-  end-here : (end : ℕ) → cell walls row 2 ≡ direction → cell walls row 7 ≡ 1 → cell walls row 3 ≡ place end → solidAtEnd walls direction end row ≡ true
-  unfolding solidAtEnd
-  end-here end same solid here = rw (in-same same, eq-eqb (cell walls row 7) 1 solid, eq-eqb (cell walls row 3) (place end) here)
+        pub opening : (cell walls row 7 ≡ 1 → ⊥) → Next (sums .all + counted) (sums .a) (sums .b)
+        opening hollow =
+            rw (so-far, e, taken along row in-direction, left (solid-at endA) row (not-solid endA hollow), left (solid-at endB) row (not-solid endB hollow))
 
-  module _ {sums : Held} (so-far : sums ≡ heldBy table storey walls direction row) where
-    abbrev Next : ℕ → ℕ → ℕ → Type 0
-    Next all a b = record { all = all; a = a; b = b } ≡ heldBy table storey walls direction (row + 1)
+        module _ (solid : cell walls row 7 ≡ 1) where
+          elsewhere : (end : ℕ) → (cell walls row 3 ≡ place end → ⊥) → sum (solid-at end) (row + 1) ≡ sum (solid-at end) row
+          unfolding solidAtEnd
+          elsewhere end not-here =
+              left (solid-at end) row (rw (in-direction, eq-eqb (cell walls row 7) 1 solid, ne-eqb (cell walls row 3) (place end) not-here))
 
-    pub other-direction : (cell walls row 2 ≡ direction → ⊥) → sums ≡ heldBy table storey walls direction (row + 1)
-    other-direction other =
-        rw (left (inDirection walls direction) (in-other other), left (solidAtEnd walls direction endA) (end-other endA other), left (solidAtEnd walls direction endB) (end-other endB other))
-        so-far
+          stands : (end : ℕ) → cell walls row 3 ≡ place end → sum (solid-at end) (row + 1) ≡ sum (solid-at end) row + counts row
+          unfolding solidAtEnd
+          stands end here = taken (solid-at end) row (rw (in-direction, eq-eqb (cell walls row 7) 1 solid, eq-eqb (cell walls row 3) (place end) here))
 
-    module _ {counted : ℕ} (counts : counted ≡ share table storey walls row) (same : cell walls row 2 ≡ direction) where
-      whole : heldWhere (inDirection walls direction) table storey walls (row + 1) ≡ heldWhere (inDirection walls direction) table storey walls row + share table storey walls row
-      whole = taken (inDirection walls direction) (in-same same)
+          pub at-a : cell walls row 3 ≡ 1 → Next (sums .all + counted) (sums .a + counted) (sums .b)
+          at-a here = rw (so-far, e, taken along row in-direction, stands endA here, elsewhere endB (λ b. omega arith))
 
-      pub opening : (cell walls row 7 ≡ 1 → ⊥) → Next (sums .all + counted) (sums .a) (sums .b)
-      opening hollow =
-          rw (so-far, counts, whole, left (solidAtEnd walls direction endA) (end-opening endA same hollow), left (solidAtEnd walls direction endB) (end-opening endB same hollow))
+          pub at-b : cell walls row 3 ≡ 3 → Next (sums .all + counted) (sums .a) (sums .b + counted)
+          at-b here = rw (so-far, e, taken along row in-direction, elsewhere endA (λ a. omega arith), stands endB here)
 
-      module _ (solid : cell walls row 7 ≡ 1) where
-        elsewhere : (end : ℕ) → (cell walls row 3 ≡ place end → ⊥) → heldWhere (solidAtEnd walls direction end) table storey walls (row + 1) ≡ heldWhere (solidAtEnd walls direction end) table storey walls row
-        elsewhere end not-here = left (solidAtEnd walls direction end) (end-elsewhere end same solid not-here)
-
-        stands : (end : ℕ) → cell walls row 3 ≡ place end → heldWhere (solidAtEnd walls direction end) table storey walls (row + 1) ≡ heldWhere (solidAtEnd walls direction end) table storey walls row + share table storey walls row
-        stands end here = taken (solidAtEnd walls direction end) (end-here end same solid here)
-
-        pub at-a : cell walls row 3 ≡ 1 → Next (sums .all + counted) (sums .a + counted) (sums .b)
-        at-a here = rw (so-far, counts, whole, stands endA here, elsewhere endB (λ e. omega arith))
-
-        pub at-b : cell walls row 3 ≡ 3 → Next (sums .all + counted) (sums .a) (sums .b + counted)
-        at-b here = rw (so-far, counts, whole, elsewhere endA (λ e. omega arith), stands endB here)
-
-        pub in-middle : (cell walls row 3 ≡ 1 → ⊥) → (cell walls row 3 ≡ 3 → ⊥) → Next (sums .all + counted) (sums .a) (sums .b)
-        in-middle not-a not-b = rw (so-far, counts, whole, elsewhere endA not-a, elsewhere endB not-b)
-
--- A wall of at most 20 m counts at most so much, and so many of them hold at most so much.
-pub share-at-most : (table : List ℕ) (storey : ℕ) (walls : List ℕ) (row : ℕ) → cell walls row 5 ≤ 20000 → share table storey walls row ≤ mostShare
-unfolding share
-share-at-most table storey walls row short =
-    share-most (storeys table) storey (foundation table) (cell walls row 6) (cell walls row 4) (cell walls row 5) short (cell walls row 7)
-
-held-at-most : (test : ℕ → Bool) (table : List ℕ) (storey : ℕ) (walls : List ℕ) (n : ℕ) → ((k : ℕ) → k < n → cell walls k 5 ≤ 20000)
-    → heldWhere test table storey walls n ≤ n * mostShare
-held-at-most test table storey walls zero short = rw (held-none test table storey walls) (lit≤ tt)
-held-at-most test table storey walls (suc n) short =
-    rw (← add-one)
-    (go (test n) refl (share-at-most table storey walls n (short n (omega arith))) (held-at-most test table storey walls n (λ k l. short k (omega arith))))
-  where
-    go : (b : Bool) → test n ≡ b → share table storey walls n ≤ mostShare → heldWhere test table storey walls n ≤ n * mostShare
-        → heldWhere test table storey walls (n + 1) ≤ (n + 1) * mostShare
-    go true e last h = rw (held-taken test table storey walls n e) (omega arith)
-    go false e last h = rw (held-left test table storey walls n e) (omega arith)
+          pub in-middle : (cell walls row 3 ≡ 1 → ⊥) → (cell walls row 3 ≡ 3 → ⊥) → Next (sums .all + counted) (sums .a) (sums .b)
+          in-middle not-a not-b = rw (so-far, e, taken along row in-direction, elsewhere endA not-a, elsewhere endB not-b)
 
 -- Of an accepted table, a storey's part is at most 300 walls, each of at most 20 m.
 module _ (table : List ℕ) (h : judging table .number ≡ 0) (storey : ℕ) {walls : List ℕ} (e : walls ≡ storeyWalls table storey) where
@@ -145,7 +130,7 @@ module _ (table : List ℕ) (h : judging table .number ≡ 0) (storey : ℕ) {wa
   -- So no sum over them is above what `method` computes with.
   pub held-within : (test : ℕ → Bool) (n : ℕ) → n ≤ length walls / 8 → heldWhere test table storey walls n ≤ mostHeld
   held-within test n few =
-      omega (arith, held-at-most test table storey walls n (λ k l. walls-short k (omega arith)), walls-count, s .few)
+      omega (arith, held-at-most table storey walls test n (λ k l. walls-short k (omega arith)), walls-count, s .few)
 
 module _ (table : List ℕ) (h : judging table .number ≡ 0) (storey direction : ℕ) where
   pub held-most : held table storey direction ≤ mostHeld
