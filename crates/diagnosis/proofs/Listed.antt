@@ -40,9 +40,11 @@ module _ (table : List ℕ) (below : ℕ) {x y : ℕ} (x-is : x ≡ fullScore ta
   pub scores-more : {written : List ℕ} → below < 3 → written ≡ over noScores (scoresOf table below)
       → set (set written (2 * below) x) (2 * below + 1) y ≡ over noScores (scoresOf table (below + 1))
   scores-more few e =
-      let long : length (scoresOf table below) ≡ 2 * below = joined-length 2 (λ below. storeyScores table (below + 1)) (λ i. refl) below in
-      rw (e, over-set noScores (scoresOf table below) x (2 * below) long (omega arith), over-set noScores (scoresOf table below ++ x ∷ []) y (2 * below + 1) (rw length-append (omega (arith, long))) (omega arith), append-assoc)
-      (ap (over noScores) one-more)
+      let some = scoresOf table below in
+      let long : length some ≡ 2 * below = joined-length 2 (λ below. storeyScores table (below + 1)) (λ i. refl) below in
+      let first = over-set noScores some x (2 * below) long (omega arith) in
+      let second = over-set noScores (some ++ x ∷ []) y (2 * below + 1) (rw length-append (omega (arith, long))) (omega arith) in
+      rw (e, first, second, append-assoc) (ap (over noScores) one-more)
 
   pub least-score-more : {least : ℕ} → least ≡ leastOf (scoresOf table below) → min least (min x y) ≡ leastOf (scoresOf table (below + 1))
   least-score-more e = rw e (least-more (scoresOf table below) x y ∙ ap leastOf one-more)
@@ -135,7 +137,8 @@ score-at table i inside =
 
 pub score-small : (table : List ℕ) (storey direction : ℕ) → fullScore table storey direction ≤ 999
 unfolding fullScore
-score-small table storey direction = score-most (held table storey direction) (required table storey) (layout table storey direction) (deterioration table)
+score-small table storey direction =
+    score-most (held table storey direction) (required table storey) (layout table storey direction) (deterioration table)
 
 pub least-score-one : (table : List ℕ) → judging table .number ≡ 0
     → (storey : ℕ) × (direction : ℕ) × InHouse table storey direction × (leastScore table ≡ fullScore table storey direction)

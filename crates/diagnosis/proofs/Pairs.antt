@@ -63,7 +63,8 @@ p10-worse =
     (omega arith) (omega arith) (omega arith) (omega arith) refl
 
 -- So without that premise the comparison is false.
-pub bands-needed : ((A B : List ℕ) → Worse A B → (storey direction : ℕ) → InHouse A storey direction → fullScore B storey direction ≤ fullScore A storey direction) → ⊥
+pub bands-needed : ((A B : List ℕ) → Worse A B → (storey direction : ℕ) → InHouse A storey direction → fullScore B storey direction ≤ fullScore A storey direction)
+    → ⊥
 bands-needed claim =
     let stands : InHouse (p10 90) 1 1 = record { some-storey = omega arith; last-storey = omega arith; some-direction = omega arith; last-direction = omega arith } in
     omega (arith, claim (p10 90) (p10 100) p10-worse 1 1 stands, p10-rises .0, p10-rises .1)

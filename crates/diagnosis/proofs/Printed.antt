@@ -75,14 +75,17 @@ module _ (table : List ℕ) (h : judging table .number ≡ 0) where
   storey-small : (below : ℕ) → below < storeys table → Small (storeyRows table (below + 1))
   storey-small below inside =
       let row : ℕ → List ℕ = λ direction. resultRow (below + 1) direction (assessment table (below + 1) direction) (deterioration table) in
-      small-append (row 1) (row 2) (result-small (below + 1) 1 (omega arith) (omega arith) (lit≤ tt)) (result-small (below + 1) 2 (omega arith) (omega arith) (lit≤ tt))
+      small-append (row 1) (row 2) (result-small (below + 1) 1 (omega arith) (omega arith) (lit≤ tt))
+      (result-small (below + 1) 2 (omega arith) (omega arith) (lit≤ tt))
 
   report-small : Small (reportRows table)
   unfolding reportRows resultRows leastScore
   report-small =
       small-append (resultRows table) (verdictRow (leastScore table))
-      (small-joined (storeys table) (λ below. storeyRows table (below + 1)) storey-small)
-      (lit≤ tt, (le-trans (verdict-most (leastScore table)) (lit≤ tt), (le-trans (least-most (scores table)) (lit≤ tt), (lit≤ tt, (lit≤ tt, (lit≤ tt, (lit≤ tt, (lit≤ tt, tt))))))))
+      (small-joined (storeys table) (λ below. storeyRows table (below + 1)) storey-small) (
+        lit≤ tt,
+        (le-trans (verdict-most (leastScore table)) (lit≤ tt), (le-trans (least-most (scores table)) (lit≤ tt), (lit≤ tt, (lit≤ tt, (lit≤ tt, (lit≤ tt, (lit≤ tt, tt))))))),
+      )
 
   pub report-fits : (i : ℕ) → getD (reportRows table) i 0 ≤ 99999999
   report-fits = small-at (reportRows table) report-small
@@ -96,6 +99,7 @@ module _ (table : List ℕ) (h : judging table .number ≡ 0) where
   }
 
   pub report-is-sheet : (lent : List ℕ) → 65 * reportLines table ≤ length lent
-      → (counted (65 * reportLines table) ≡ writing (reportRows table) (length lent)) × (over lent (reportBytes table) ≡ afterWriting (reportRows table) lent)
+      → (counted (65 * reportLines table) ≡ writing (reportRows table) (length lent)) ×
+      (over lent (reportBytes table) ≡ afterWriting (reportRows table) lent)
   unfolding reportBytes
   report-is-sheet lent room = writable-accepted (reportRows table) lent (reportLines table) report-writable room

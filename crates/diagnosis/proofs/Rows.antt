@@ -19,12 +19,19 @@ use Rattle.diagnosis.specs.House.{deterioration, assessment, leastScore}
 use Rattle.diagnosis.specs.Report.{resultRow, storeyRows, resultRows, verdictRow, reportRows, reportLines, reportBytes}
 
 -- One column more of a row that is copied, and all of them.
-pub column-more : (row lent : List ℕ) {written : List ℕ} (column : ℕ) → column < length row → length row ≤ length lent → written ≡ over lent (take column row)
+pub column-more : (row lent : List ℕ) {written : List ℕ} (column : ℕ) → column < length row → length row ≤ length lent
+    → written ≡ over lent (take column row)
     → set written column (getD row column 0) ≡ over lent (take (column + 1) row)
 column-more row lent column inside room e =
-    rw (e, over-set lent (take column row) (getD row column 0) column (length-take-le column row (omega arith)) (omega arith), add-one, take-suc row column 0 inside)
+    rw (
+      e,
+      over-set lent (take column row) (getD row column 0) column (length-take-le column row (omega arith)) (omega arith),
+      add-one,
+      take-suc row column 0 inside,
+    )
 
-pub row-copied : (row lent : List ℕ) {written : List ℕ} (column : ℕ) → length row ≤ column → length row ≡ length lent → written ≡ over lent (take column row)
+pub row-copied : (row lent : List ℕ) {written : List ℕ} (column : ℕ) → length row ≤ column → length row ≡ length lent
+    → written ≡ over lent (take column row)
     → written ≡ row
 row-copied row lent column all long e = e ∙ rw (take-all column row all) (over-whole lent row long)
 
@@ -32,7 +39,15 @@ row-copied row lent column all long e = e ∙ rw (take-all column row all) (over
 pub two-rows : (lent : List ℕ) {one other : List ℕ} (x y : List ℕ) → length lent ≡ 16 → length x ≡ 8 → length y ≡ 8 → one ≡ x → other ≡ y
     → putMid 8 8 (one ++ postOf 0 8 lent) other ≡ x ++ y
 two-rows lent x y long first second one other =
-    rw (one, other, take-at x (drop 8 lent) 8 first, drop-at x (drop 8 lent) 8 first, drop-drop 8 8 lent, drop-of-length-le lent {i = 16} (omega arith), append-nil)
+    rw (
+      one,
+      other,
+      take-at x (drop 8 lent) 8 first,
+      drop-at x (drop 8 lent) 8 first,
+      drop-drop 8 8 lent,
+      drop-of-length-le lent {i = 16} (omega arith),
+      append-nil,
+    )
 
 -- They are the storey's, where they are made of what is worked out for it.
 pub storey-rows : (table : List ℕ) (storey : ℕ) {x y : Assessment} {factor : Fraction}

@@ -86,7 +86,13 @@ module _ (table : List ℕ) (storey : ℕ) (walls : List ℕ) where
 
         pub opening : (cell walls row 7 ≡ 1 → ⊥) → Next (sums .all + counted) (sums .a) (sums .b)
         opening hollow =
-            rw (so-far, e, taken along row in-direction, left (solid-at endA) row (not-solid endA hollow), left (solid-at endB) row (not-solid endB hollow))
+            rw (
+              so-far,
+              e,
+              taken along row in-direction,
+              left (solid-at endA) row (not-solid endA hollow),
+              left (solid-at endB) row (not-solid endB hollow),
+            )
 
         module _ (solid : cell walls row 7 ≡ 1) where
           elsewhere : (end : ℕ) → (cell walls row 3 ≡ place end → ⊥) → sum (solid-at end) (row + 1) ≡ sum (solid-at end) row
@@ -96,7 +102,8 @@ module _ (table : List ℕ) (storey : ℕ) (walls : List ℕ) where
 
           stands : (end : ℕ) → cell walls row 3 ≡ place end → sum (solid-at end) (row + 1) ≡ sum (solid-at end) row + counts row
           unfolding solidAtEnd
-          stands end here = taken (solid-at end) row (rw (in-direction, eq-eqb (cell walls row 7) 1 solid, eq-eqb (cell walls row 3) (place end) here))
+          stands end here =
+              taken (solid-at end) row (rw (in-direction, eq-eqb (cell walls row 7) 1 solid, eq-eqb (cell walls row 3) (place end) here))
 
           pub at-a : cell walls row 3 ≡ 1 → Next (sums .all + counted) (sums .a + counted) (sums .b)
           at-a here = rw (so-far, e, taken along row in-direction, stands endA here, elsewhere endB (λ b. omega arith))

@@ -21,20 +21,25 @@ module _
     (some : 1 ≤ storey) (most : storey ≤ storeys table) (one : 1 ≤ direction) (two : direction ≤ 2)
   where
     pub band-is : (end : ℕ) → end ≤ 1
-        → band (min (endHeld table storey direction end) mostHeld) (min (endRequired table storey direction end) mostRequired) ≡ endBand table storey direction end
+        → band (min (endHeld table storey direction end) mostHeld) (min (endRequired table storey direction end) mostRequired) ≡ endBand table storey
+        direction end
     unfolding endBand
     band-is end last =
-        let holds : min (endHeld table storey direction end) mostHeld ≡ endHeld table storey direction end = omega (arith, end-held-most table h storey direction end) in
-        let needs : min (endRequired table storey direction end) mostRequired ≡ endRequired table storey direction end = omega (arith, end-required-within table h storey direction end some most one two last) in
-        rw (holds, needs)
+        let holds = endHeld table storey direction end in
+        let needs = endRequired table storey direction end in
+        let held-all : min holds mostHeld ≡ holds = omega (arith, end-held-most table h storey direction end) in
+        let needed-all : min needs mostRequired ≡ needs = omega (arith, end-required-within table h storey direction end some most one two last) in
+        rw (held-all, needed-all)
 
     pub score-is : score (min (held table storey direction) mostHeld) (min (required table storey) mostRequired) (layout table storey direction) (deterioration table)
         ≡ fullScore table storey direction
     unfolding fullScore
     score-is =
-        let holds : min (held table storey direction) mostHeld ≡ held table storey direction = omega (arith, held-most table h storey direction) in
-        let needs : min (required table storey) mostRequired ≡ required table storey = omega (arith, required-within table h some most) in
-        rw (holds, needs)
+        let holds = held table storey direction in
+        let needs = required table storey in
+        let held-all : min holds mostHeld ≡ holds = omega (arith, held-most table h storey direction) in
+        let needed-all : min needs mostRequired ≡ needs = omega (arith, required-within table h some most) in
+        rw (held-all, needed-all)
 
 -- So a row of the report can be made of them.
 pub row-fits : (table : List ℕ) → judging table .number ≡ 0 → (storey direction : ℕ) → 1 ≤ storey → storey ≤ storeys table

@@ -29,11 +29,17 @@ module _ (table lent : List ℕ) where
   module _ (h : judging table .number ≡ 0) where
     pub report-short : length lent < 65 * reportLines table → Reported table lent (refusal lent-space-short 0 0) lent
     unfolding reporting afterReporting
-    report-short short = (rw (eq-eqb (judging table .number) 0 h, lt-ltb (length lent) (65 * reportLines table) short), rw (eq-eqb (judging table .number) 0 h, lt-ltb (length lent) (65 * reportLines table) short))
+    report-short short =
+        let judged = eq-eqb (judging table .number) 0 h in
+        let less = lt-ltb (length lent) (65 * reportLines table) short in
+        (rw (judged, less), rw (judged, less))
 
     pub report-written : 65 * reportLines table ≤ length lent → Reported table lent (counted (65 * reportLines table)) (over lent (reportBytes table))
     unfolding reporting afterReporting
-    report-written room = (rw (eq-eqb (judging table .number) 0 h, le-ltb (length lent) (65 * reportLines table) room), rw (eq-eqb (judging table .number) 0 h, le-ltb (length lent) (65 * reportLines table) room))
+    report-written room =
+        let judged = eq-eqb (judging table .number) 0 h in
+        let enough = le-ltb (length lent) (65 * reportLines table) room in
+        (rw (judged, enough), rw (judged, enough))
 
   -- A table that is refused.
   pub report-refused : (answer : Answer) {number row column : ℕ} → told answer ≡ judging table → answer ≡ Refused number row column

@@ -57,7 +57,14 @@ returns c =
     let at-held = at-required .before in
     let start = at-held .before .before .before in
     let stands = start .pre .1 .1 .1 in
-    rw (c .score .ensures, sums-all _ _ _ (at-held .held-by .ensures) (start .pre .1 .0), at-required .storey-required .ensures, laid-out (c .before), start .pre .1 .1 .0, score-is _ (start .pre .0) _ _ (stands .0 .0) (stands .0 .1) (stands .1 .0) (stands .1 .1))
+    rw (
+      c .score .ensures,
+      sums-all _ _ _ (at-held .held-by .ensures) (start .pre .1 .0),
+      at-required .storey-required .ensures,
+      laid-out (c .before),
+      start .pre .1 .1 .0,
+      score-is _ (start .pre .0) _ _ (stands .0 .0) (stands .0 .1) (stands .1 .0) (stands .1 .1),
+    )
 
 pub assess-spec : {M : Type 1} → statement M
 assess-spec =

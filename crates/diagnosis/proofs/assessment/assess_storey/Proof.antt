@@ -20,8 +20,10 @@ assess-requires c κs =
 
 assess-requires-2 : tie.Need-assess-requires-2
 assess-requires-2 c κs =
-    let start = c .before .before .before in
-    (start .pre .0, (c .before .storey-run .ensures ∙ run-is-walls _ (start .pre .0) _, (start .pre .1 .0, (start .pre .1 .1, (omega arith, omega arith)))))
+    let start = c .before .before .before in (
+      start .pre .0,
+      (c .before .storey-run .ensures ∙ run-is-walls _ (start .pre .0) _, (start .pre .1 .0, (start .pre .1 .1, (omega arith, omega arith)))),
+    )
 
 returns : tie.Need-returns
 returns c = search needs

@@ -26,7 +26,8 @@ unfolding deterioration
 returns c =
     let at-2 = c .before .before in
     let start = at-2 .before .before .before in
-    rw (← parts-last _ (start .pre), ← at-2 .before .cell .ensures, ← at-2 .cell2 .ensures, ← c .before .cell3 .ensures) (c .deterioration-factor .ensures)
+    rw (← parts-last _ (start .pre), ← at-2 .before .cell .ensures, ← at-2 .cell2 .ensures, ← c .before .cell3 .ensures)
+    (c .deterioration-factor .ensures)
 
 pub deterioration-spec : {M : Type 1} → statement M
 deterioration-spec =

@@ -41,7 +41,8 @@ add-cell c = search needs
 ends-row-inside : (c : tie.After-cell) → 8 * (c .cell .result + 1 + 2 * (c .before .before .args .storey - 1) + (c .before .before .args .direction - 1)) + 8 ≤ length (now (c .before .before .args .table))
 ends-row-inside c =
     let start = c .before .before in
-    rw (c .cell .ensures) (ends-inside _ (start .pre .0) (start .args .storey) (start .args .direction) (start .pre .1 .0 .1) (start .pre .1 .0 .0) (start .pre .1 .1 .0 .1))
+    rw (c .cell .ensures)
+    (ends-inside _ (start .pre .0) (start .args .storey) (start .args .direction) (start .pre .1 .0 .1) (start .pre .1 .0 .0) (start .pre .1 .1 .0 .1))
 
 cell-requires-2 : tie.Need-cell-requires-2
 cell-requires-2 c κs = (ends-row-inside c, omega arith)
@@ -69,7 +70,8 @@ returns : tie.Need-returns
 returns c =
     let start = c .before .before .before .before .before .before in
     let ends = start .pre .1 .1 .0 in
-    c .band .ensures ∙ rw (start .pre .1 .1 .1, needs-end (c .before)) (band-is _ (start .pre .0) _ _ (start .pre .1 .0 .0) (start .pre .1 .0 .1) (ends .0) (ends .1) _ (ends .2))
+    c .band .ensures ∙ rw (start .pre .1 .1 .1, needs-end (c .before))
+    (band-is _ (start .pre .0) _ _ (start .pre .1 .0 .0) (start .pre .1 .0 .1) (ends .0) (ends .1) _ (ends .2))
 
 pub end-band-spec : {M : Type 1} → statement M
 end-band-spec =

@@ -30,7 +30,10 @@ part-report-start c = search needs
 part-report-end : tie.Need-part-report-end
 part-report-end c =
     let start = c .before .before .before .before .before .before .before .before .before .before .before in
-    omega (arith, rows-fit _ (now (start .args .table)) (now (start .args .report)) (start .pre) (c .before .before .before .before .before .before .read .ensures .0) (c .before .before .answer .given .1) (c .before .before .before .before .before .before .read .ensures .1))
+    omega (
+      arith,
+      rows-fit _ (now (start .args .table)) (now (start .args .report)) (start .pre) (c .before .before .before .before .before .before .read .ensures .0) (c .before .before .answer .given .1) (c .before .before .before .before .before .before .read .ensures .1),
+    )
 
 report-requires : tie.Need-report-requires
 report-requires c κs = search needs
@@ -39,7 +42,10 @@ same-length : tie.Need-same-length
 same-length c = search needs
 
 returns : tie.Need-returns
-returns c = diagnose-refused _ (now (c .before .before .before .before .before .before .before .before .before .args .table)) _ (c .before .before .before .before .before .before .before .before .before .pre) (c .before .before .before .before .read .ensures .0) (c .enum-told .given .1)
+returns c =
+    diagnose-refused _ (now (c .before .before .before .before .before .before .before .before .before .args .table)) _
+    (c .before .before .before .before .before .before .before .before .before .pre) (c .before .before .before .before .read .ensures .0)
+    (c .enum-told .given .1)
 
 same-length-2 : tie.Need-same-length-2
 same-length-2 c = search needs
@@ -51,7 +57,9 @@ returns-2 : tie.Need-returns-2
 returns-2 c =
     let start = c .before .before .before .before .before .before .before .before .before .before .before .before .before .before .before .before in
     let at-read = c .before .before .before .before .before .before .before .before .before .before .before in
-    diagnose-read _ (now (start .args .table)) _ (start .pre) (at-read .read .ensures .0) (c .before .before .before .before .before .before .before .answer .given .1) (at-read .read .ensures .1) (c .before .before .report .ensures .0) (c .before .before .report .ensures .1)
+    diagnose-read _ (now (start .args .table)) _ (start .pre) (at-read .read .ensures .0)
+    (c .before .before .before .before .before .before .before .answer .given .1) (at-read .read .ensures .1) (c .before .before .report .ensures .0)
+    (c .before .before .report .ensures .1)
 
 pub diagnose-by-spec : {M : Type 1} → statement M
 diagnose-by-spec =

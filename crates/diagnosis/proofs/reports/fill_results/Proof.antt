@@ -22,7 +22,9 @@ use Rattle.diagnosis.proofs.reports.fill_results.Statement.{statement}
 use Rattle.diagnosis.proofs.reports.fill_results.Tie as tie
 
 abbrev Inv-loop : tie.InvT-loop
-Inv-loop table rows₀ factor storeys least₀ below₀ rows least below = (storeys ≤ 3) × (below ≤ storeys) × (16 * storeys ≤ length rows₀) × (length rows ≡ length rows₀) × (rows ≡ over rows₀ (rowsOf table below)) × (least ≡ leastOf (scoresOf table below))
+Inv-loop table rows₀ factor storeys least₀ below₀ rows least below =
+    (storeys ≤ 3) × (below ≤ storeys) × (16 * storeys ≤ length rows₀) × (length rows ≡ length rows₀) × (rows ≡ over rows₀ (rowsOf table below)) ×
+    (least ≡ leastOf (scoresOf table below))
 
 abbrev μ-loop : tie.MeasureT-loop
 μ-loop table rows₀ factor storeys least₀ below₀ rows least below = storeys - below
@@ -116,8 +118,14 @@ loop-again c =
     let factor = at-loop .before .before .deterioration .ensures in
     let x = ap (λ (f : Assessment). f .score) (found .0) in
     let y = ap (λ (f : Assessment). f .score) (found .1) in
-    let written = storey-more (now (start .args .table)) (now (start .args .rows)) n (omega arith) (inv .4) (at-storey .fill-storey .ensures ∙ storey-rows _ (n + 1) (found .0) (found .1) factor) in
-    (inv .0, search needs, inv .2, ap length written ∙ over-length _ _ (omega (arith, rows-of-length (now (start .args .table)) (n + 1))), written, c .lesser2 .ensures ∙ rw (c .before .lesser .ensures) (least-score-more _ n x y (inv .5)))
+    let written = storey-more (now (start .args .table)) (now (start .args .rows)) n (omega arith) (inv .4) (at-storey .fill-storey .ensures ∙ storey-rows _ (n + 1) (found .0) (found .1) factor) in (
+      inv .0,
+      search needs,
+      inv .2,
+      ap length written ∙ over-length _ _ (omega (arith, rows-of-length (now (start .args .table)) (n + 1))),
+      written,
+      c .lesser2 .ensures ∙ rw (c .before .lesser .ensures) (least-score-more _ n x y (inv .5)),
+    )
 
 same-length : tie.Need-same-length Inv-loop μ-loop
 same-length c = search needs

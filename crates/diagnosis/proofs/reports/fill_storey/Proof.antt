@@ -47,8 +47,10 @@ returns : tie.Need-returns
 returns c =
     let start = c .before .before .before .before .before .before .before .before .before .before .before .before .before in
     let args = start .args in
-    two-rows (now (args .rows)) (resultRow (args .storey) 1 (args .found .x) (args .factor)) (resultRow (args .storey) 2 (args .found .y) (args .factor)) (start .pre .1 .1) refl refl
-    (c .before .before .before .before .before .before .before .put-row .ensures ∙ c .before .before .before .before .before .before .before .before .before .result-row .ensures) (c .before .before .put-row2 .ensures ∙ c .before .before .before .before .result-row2 .ensures)
+    two-rows (now (args .rows)) (resultRow (args .storey) 1 (args .found .x) (args .factor))
+    (resultRow (args .storey) 2 (args .found .y) (args .factor)) (start .pre .1 .1) refl refl
+    (c .before .before .before .before .before .before .before .put-row .ensures ∙ c .before .before .before .before .before .before .before .before .before .result-row .ensures)
+    (c .before .before .put-row2 .ensures ∙ c .before .before .before .before .result-row2 .ensures)
 
 pub fill-storey-spec : {M : Type 1} → statement M
 fill-storey-spec =

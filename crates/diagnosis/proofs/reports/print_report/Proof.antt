@@ -25,7 +25,8 @@ mul-results c = search needs
 filled-length : (c : tie.After-fill-results) → length (c .fill-results .last .1 .0) ≡ 56
 filled-length c =
     let start = c .before .before .before .before .before in
-    ap length (c .fill-results .ensures .1) ∙ over-length _ _ (omega (arith, results-length (now (start .args .table)), storeys-few _ (start .pre .0), start .pre .1 .0)) ∙ start .pre .1 .0
+    ap length (c .fill-results .ensures .1) ∙ over-length _ _
+    (omega (arith, results-length (now (start .args .table)), storeys-few _ (start .pre .0), start .pre .1 .0)) ∙ start .pre .1 .0
 
 cell-requires : tie.Need-cell-requires
 cell-requires c κs = (house-inside _ (c .before .before .before .before .before .before .before .pre .0), omega arith)
@@ -68,7 +69,13 @@ part-print-rows-start c = search needs
 part-print-rows-end : tie.Need-part-print-rows-end
 part-print-rows-end c =
     let start = c .before .before .before .before .before .before .before .before .before .before .before .before .before .before in
-    omega (arith, c .before .before .before .before .before .before .cell .ensures, storeys-few _ (start .pre .0), start .pre .1 .0, filled-length (c .before .before .before .before .before .before .before .before .before))
+    omega (
+      arith,
+      c .before .before .before .before .before .before .cell .ensures,
+      storeys-few _ (start .pre .0),
+      start .pre .1 .0,
+      filled-length (c .before .before .before .before .before .before .before .before .before),
+    )
 
 print-rows-requires : tie.Need-print-rows-requires
 print-rows-requires c κs = search needs

@@ -37,7 +37,12 @@ print-report-requires : tie.Need-print-report-requires
 print-report-requires c κs = search needs
 
 cast-t6 : tie.Need-cast-t6
-cast-t6 c = omega (arith, c .before .before .before .before .before .before .before .cell .ensures, storeys-few _ (c .before .before .before .before .before .before .before .before .before .before .pre))
+cast-t6 c =
+    omega (
+      arith,
+      c .before .before .before .before .before .before .before .cell .ensures,
+      storeys-few _ (c .before .before .before .before .before .before .before .before .before .before .pre),
+    )
 
 same-length : tie.Need-same-length
 same-length c = search needs
@@ -45,8 +50,10 @@ same-length c = search needs
 returns-2 : tie.Need-returns-2
 returns-2 c =
     let start = c .before .before .before .before .before .before .before .before .before .before in
-    let written = report-written _ (now (start .args .report)) (start .pre) (rw (c .before .before .before .before .before .before .before .cell .ensures) at (c .before .before .before .before .before .before .if1 .left)) in
-    (ap (λ (n : ℕ). counted (65 * (2 * n + 1))) (c .before .before .before .before .before .before .before .cell .ensures) ∙ written .0, c .before .before .before .print-report .ensures ∙ written .1)
+    let written = report-written _ (now (start .args .report)) (start .pre) (rw (c .before .before .before .before .before .before .before .cell .ensures) at (c .before .before .before .before .before .before .if1 .left)) in (
+      ap (λ (n : ℕ). counted (65 * (2 * n + 1))) (c .before .before .before .before .before .before .before .cell .ensures) ∙ written .0,
+      c .before .before .before .print-report .ensures ∙ written .1,
+    )
 
 pub report-accepted-spec : {M : Type 1} → statement M
 report-accepted-spec =

@@ -15,7 +15,8 @@ use Rattle.diagnosis.proofs.scores.record_of.Statement.{statement}
 use Rattle.diagnosis.proofs.scores.record_of.Tie as tie
 
 abbrev Inv-loop : tie.InvT-loop
-Inv-loop table storeys factor scores₀ least₀ below₀ scores least below = (storeys ≤ 3) × (below ≤ storeys) × (scores ≡ over noScores (scoresOf table below)) × (least ≡ leastOf (scoresOf table below))
+Inv-loop table storeys factor scores₀ least₀ below₀ scores least below =
+    (storeys ≤ 3) × (below ≤ storeys) × (scores ≡ over noScores (scoresOf table below)) × (least ≡ leastOf (scoresOf table below))
 
 abbrev μ-loop : tie.MeasureT-loop
 μ-loop table storeys factor scores₀ least₀ below₀ scores least below = storeys - below
@@ -80,8 +81,12 @@ loop-again c =
     let at-loop = c .before .before .before .before in
     let inv = at-loop .loop .inv in
     let x = ap (λ (f : Assessment). f .score) (found .0) in
-    let y = ap (λ (f : Assessment). f .score) (found .1) in
-    (inv .0, search needs, scores-more _ (at-loop .loop .below) x y (omega arith) (inv .2), c .lesser2 .ensures ∙ rw (c .before .lesser .ensures) (least-score-more _ (at-loop .loop .below) x y (inv .3)))
+    let y = ap (λ (f : Assessment). f .score) (found .1) in (
+      inv .0,
+      search needs,
+      scores-more _ (at-loop .loop .below) x y (omega arith) (inv .2),
+      c .lesser2 .ensures ∙ rw (c .before .lesser .ensures) (least-score-more _ (at-loop .loop .below) x y (inv .3)),
+    )
 
 cast-t10 : tie.Need-cast-t10 Inv-loop μ-loop
 cast-t10 c = search needs

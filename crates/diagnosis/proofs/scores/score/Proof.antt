@@ -29,7 +29,8 @@ returns c =
 
 returns-2 : tie.Need-returns-2
 unfolding scoring
-returns-2 c = rw (eq-eqb _ 0 (judge-accepted _ (c .before .before .before .judge .ensures) (c .before .enum-told .given .1) .0), c .record-of .ensures)
+returns-2 c =
+    rw (eq-eqb _ 0 (judge-accepted _ (c .before .before .before .judge .ensures) (c .before .enum-told .given .1) .0), c .record-of .ensures)
 
 pub score-spec : {M : Type 1} → statement M
 score-spec =

@@ -26,8 +26,10 @@ with-wall-requires c κs =
     let start = at-loop .before .before .before in
     let n = at-loop .loop .row in
     let within = held-within _ (start .pre .0) (start .args .storey) (start .pre .1) in
-    let few : n ≤ length (now (start .args .walls)) / 8 = omega arith in
-    (house-inside _ (start .pre .0), ((omega arith, walls-short _ (start .pre .0) (start .args .storey) (start .pre .1) n (omega arith)), ((rw (at-loop .loop .inv .1) (within _ n few), rw (at-loop .loop .inv .1) (within _ n few), rw (at-loop .loop .inv .1) (within _ n few)), at-loop .loop .inv .1)))
+    let few : n ≤ length (now (start .args .walls)) / 8 = omega arith in (
+      house-inside _ (start .pre .0),
+      ((omega arith, walls-short _ (start .pre .0) (start .args .storey) (start .pre .1) n (omega arith)), ((rw (at-loop .loop .inv .1) (within _ n few), rw (at-loop .loop .inv .1) (within _ n few), rw (at-loop .loop .inv .1) (within _ n few)), at-loop .loop .inv .1)),
+    )
 
 add-row : tie.Need-add-row Inv-loop μ-loop
 add-row c = search needs

@@ -38,7 +38,14 @@ unfolding requiredOf
 returns c =
     let at-3 = c .before .before .before in
     let at-narrow = at-3 .before in
-    rw (← c .before .cell5 .ensures, ← c .before .before .cell4 .ensures, ← at-3 .cell3 .ensures, ← at-narrow .before .cell2 .ensures, ← at-narrow .before .before .cell .ensures, ← at-narrow .narrow-factor .ensures)
+    rw (
+      ← c .before .cell5 .ensures,
+      ← c .before .before .cell4 .ensures,
+      ← at-3 .cell3 .ensures,
+      ← at-narrow .before .cell2 .ensures,
+      ← at-narrow .before .before .cell .ensures,
+      ← at-narrow .narrow-factor .ensures,
+    )
     (c .required-strength .ensures)
 
 pub required-of-spec : {M : Type 1} → statement M

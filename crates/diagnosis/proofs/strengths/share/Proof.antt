@@ -30,7 +30,14 @@ unfolding share
 returns c =
     let at-5 = c .before .before in
     let at-3 = at-5 .before .before in
-    rw (← c .before .cell6 .ensures, ← at-5 .cell5 .ensures, ← at-5 .before .cell4 .ensures, ← at-3 .cell3 .ensures, ← at-3 .before .cell2 .ensures, ← at-3 .before .before .cell .ensures)
+    rw (
+      ← c .before .cell6 .ensures,
+      ← at-5 .cell5 .ensures,
+      ← at-5 .before .cell4 .ensures,
+      ← at-3 .cell3 .ensures,
+      ← at-3 .before .cell2 .ensures,
+      ← at-3 .before .before .cell .ensures,
+    )
     (c .wall-share .ensures)
 
 pub share-spec : {M : Type 1} → statement M

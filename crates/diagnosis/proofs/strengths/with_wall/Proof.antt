@@ -43,37 +43,46 @@ returns-2 : tie.Need-returns-2
 returns-2 c =
     let at-share = c .before .before .before in
     let at-if1 = at-share .before in
-    opening _ _ _ _ _ (at-if1 .before .before .before .before .pre .1 .1 .1) (at-share .share .ensures) (same-direction at-if1) (λ e. c .if2 .taken (c .before .cell2 .ensures ∙ e))
+    opening _ _ _ _ _ (at-if1 .before .before .before .before .pre .1 .1 .1) (at-share .share .ensures) (same-direction at-if1)
+    (λ e. c .if2 .taken (c .before .cell2 .ensures ∙ e))
 
 cell-requires-3 : tie.Need-cell-requires-3
 cell-requires-3 c κs = search needs
 
 add-next-2 : tie.Need-add-next-2
-add-next-2 c = room (c .before .before .before .before .before .before) (c .before .before .before .before .before .before .before .before .before .before .before .pre .1 .1 .0 .1)
+add-next-2 c =
+    room (c .before .before .before .before .before .before)
+    (c .before .before .before .before .before .before .before .before .before .before .before .pre .1 .1 .0 .1)
 
 returns-3 : tie.Need-returns-3
 returns-3 c =
     let at-if2 = c .before .before .before in
     let at-share = at-if2 .before .before .before in
     let at-if1 = at-share .before in
-    at-a _ _ _ _ _ (at-if1 .before .before .before .before .pre .1 .1 .1) (at-share .share .ensures) (same-direction at-if1) (sym (at-if2 .before .cell2 .ensures) ∙ at-if2 .if2 .left) (sym (c .before .before .cell3 .ensures) ∙ c .before .if3 .taken)
+    at-a _ _ _ _ _ (at-if1 .before .before .before .before .pre .1 .1 .1) (at-share .share .ensures) (same-direction at-if1)
+    (sym (at-if2 .before .cell2 .ensures) ∙ at-if2 .if2 .left) (sym (c .before .before .cell3 .ensures) ∙ c .before .if3 .taken)
 
 add-next-3 : tie.Need-add-next-3
-add-next-3 c = room (c .before .before .before .before .before .before .before) (c .before .before .before .before .before .before .before .before .before .before .before .before .pre .1 .1 .0 .2)
+add-next-3 c =
+    room (c .before .before .before .before .before .before .before)
+    (c .before .before .before .before .before .before .before .before .before .before .before .before .pre .1 .1 .0 .2)
 
 returns-4 : tie.Need-returns-4
 returns-4 c =
     let at-if2 = c .before .before .before .before in
     let at-share = at-if2 .before .before .before in
     let at-if1 = at-share .before in
-    at-b _ _ _ _ _ (at-if1 .before .before .before .before .pre .1 .1 .1) (at-share .share .ensures) (same-direction at-if1) (sym (at-if2 .before .cell2 .ensures) ∙ at-if2 .if2 .left) (sym (c .before .before .before .cell3 .ensures) ∙ c .before .if4 .taken)
+    at-b _ _ _ _ _ (at-if1 .before .before .before .before .pre .1 .1 .1) (at-share .share .ensures) (same-direction at-if1)
+    (sym (at-if2 .before .cell2 .ensures) ∙ at-if2 .if2 .left) (sym (c .before .before .before .cell3 .ensures) ∙ c .before .if4 .taken)
 
 returns-5 : tie.Need-returns-5
 returns-5 c =
     let at-if2 = c .before .before .before in
     let at-share = at-if2 .before .before .before in
     let at-if1 = at-share .before in
-    in-middle _ _ _ _ _ (at-if1 .before .before .before .before .pre .1 .1 .1) (at-share .share .ensures) (same-direction at-if1) (sym (at-if2 .before .cell2 .ensures) ∙ at-if2 .if2 .left) (λ e. c .before .if3 .left (c .before .before .cell3 .ensures ∙ e)) (λ e. c .if4 .left (c .before .before .cell3 .ensures ∙ e))
+    in-middle _ _ _ _ _ (at-if1 .before .before .before .before .pre .1 .1 .1) (at-share .share .ensures) (same-direction at-if1)
+    (sym (at-if2 .before .cell2 .ensures) ∙ at-if2 .if2 .left) (λ e. c .before .if3 .left (c .before .before .cell3 .ensures ∙ e))
+    (λ e. c .if4 .left (c .before .before .cell3 .ensures ∙ e))
 
 pub with-wall-spec : {M : Type 1} → statement M
 with-wall-spec =
