@@ -1,13 +1,14 @@
 -- The ways out of writing a report, and of diagnosing a sheet: the answer and the lent bytes in each. Assumes nothing.
-use mathlib.Core.Path.{_≡_, sym, ap, _∙_}
-use mathlib.Core.Bool.{true}
+use mathlib.Core.Path.{_≡_, refl, sym, ap, _∙_}
+use mathlib.Core.Bool.{Bool, true, false, cond}
 use mathlib.Core.List.{List}
 use Prim.Native.Nat.{ℕ, _-_, _*_, _<_, _≤_}
-use native.Mathlib.Nat.{sub-zero}
+use native.Mathlib.Nat.{le-refl, sub-zero}
 use native.Mathlib.Omega.{arith}
+use lib.Dec.{ltb}
 use lib.ListN.{length, take}
 use lib.Seq.{take-at}
-use borrow.Author.Tests.{eq-eqb, ne-eqb, lt-ltb, le-ltb}
+use borrow.Author.Tests.{eq-eqb, ne-eqb, lt-ltb, le-ltb, eqb-true, ltb-true}
 use Rattle.answer.specs.declared.Answer.{Answer}
 use Rattle.answer.specs.declared.Answer.the-variants.{Count, Refused}
 use Rattle.answer.specs.Told.{Told, told, counted, refusal, accepts, lent-space-short}
@@ -15,11 +16,13 @@ use Rattle.answer.specs.Length.{rowsIn}
 use Rattle.sheet.specs.Sheet.{over, reading, afterReading}
 use Rattle.sheet.proofs.Lists.{over-length}
 use Rattle.sheet.proofs.Sheets.{numbers-length}
-use Rattle.sheet.proofs.Answers.{Readable, accepted-readable, readable-accepted, read-refused, read-accepted}
+use Rattle.sheet.proofs.Answers.{Readable, accepted-readable, readable-accepted, never-short, read-refused, read-accepted}
 use Rattle.survey.specs.Judgement.{judging}
+use Rattle.survey.proofs.Numbers.{judging-known}
 use Rattle.survey.proofs.Acceptance.{judge-refused}
 use Rattle.diagnosis.specs.Program.{mostNumbers, tableOf, diagnosing, afterDiagnosing}
 use Rattle.diagnosis.specs.Report.{reportLines, reportBytes, reporting, afterReporting}
+use Rattle.diagnosis.proofs.Standing.{storeys-few}
 
 -- An answer to writing a table's report into lent bytes, and these afterwards.
 abbrev Reported : List ℕ → List ℕ → Told → List ℕ → Type 0
@@ -94,3 +97,23 @@ module _ (sheet table lent : List ℕ) {answer : Answer} (long : length table �
         let accepted : accepts (reading sheet mostNumbers) ≡ true = rw (← long, counts) in
         let taken = table-taken f in
         (r ∙ rw (taken, accepted), a ∙ rw (taken, accepted))
+
+-- 9 is told only where the report needs more bytes than were lent, and no report needs more than 455.
+pub short-only : (sheet : List ℕ) (lent : ℕ) → diagnosing sheet lent .number ≡ lent-space-short
+    → (lent < 65 * reportLines (tableOf sheet)) × (65 * reportLines (tableOf sheet) ≤ 455)
+unfolding diagnosing reporting
+short-only sheet lent e = go (accepts (reading sheet mostNumbers)) (accepts (judging table)) refl (ltb lent needed) refl e
+  where
+    table : List ℕ
+    table = tableOf sheet
+
+    needed : ℕ
+    needed = 65 * reportLines table
+
+    go : (a b : Bool) → accepts (judging table) ≡ b → (c : Bool) → ltb lent needed ≡ c
+        → (cond a (cond b (cond c (refusal lent-space-short 0 0) (counted needed)) (judging table)) (reading sheet mostNumbers)) .number ≡ lent-space-short
+        → (lent < needed) × (needed ≤ 455)
+    go true true j true l e = (ltb-true lent needed l, omega (arith, storeys-few table (eqb-true (judging table .number) 0 j)))
+    go true true j false l e = absurd (omega arith)
+    go true false j c l e = absurd (omega (arith, judging-known table, e))
+    go false b j c l e = absurd (never-short sheet mostNumbers (le-refl mostNumbers) e)

@@ -2,6 +2,7 @@ pub mod Faults
 pub mod Positions
 pub mod Cases
 pub mod Judged
+pub mod Numbers
 pub mod Inside
 pub mod Acceptance
 pub mod Shown
