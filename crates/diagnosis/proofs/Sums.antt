@@ -139,6 +139,10 @@ module _ (table : List ℕ) (h : judging table .number ≡ 0) (storey : ℕ) {wa
   held-within test n few =
       omega (arith, held-at-most table storey walls test n (λ k l. walls-short k (omega arith)), walls-count, s .few)
 
+  pub sums-within : (direction n : ℕ) {sums : Held} → n ≤ length walls / 8 → sums ≡ heldBy table storey walls direction n
+      → (sums .all ≤ mostHeld) × (sums .a ≤ mostHeld) × (sums .b ≤ mostHeld)
+  sums-within direction n few e = (rw e (held-within _ n few), rw e (held-within _ n few), rw e (held-within _ n few))
+
 module _ (table : List ℕ) (h : judging table .number ≡ 0) (storey direction : ℕ) where
   pub held-most : held table storey direction ≤ mostHeld
   unfolding held

@@ -21,8 +21,8 @@ module _
     (some : 1 ≤ storey) (most : storey ≤ storeys table) (one : 1 ≤ direction) (two : direction ≤ 2)
   where
     pub band-is : (end : ℕ) → end ≤ 1
-        → band (min (endHeld table storey direction end) mostHeld) (min (endRequired table storey direction end) mostRequired) ≡ endBand table storey
-        direction end
+        → band (min (endHeld table storey direction end) mostHeld) (min (endRequired table storey direction end) mostRequired)
+        ≡ endBand table storey direction end
     unfolding endBand
     band-is end last =
         let holds = endHeld table storey direction end in
@@ -31,7 +31,8 @@ module _
         let needed-all : min needs mostRequired ≡ needs = omega (arith, end-required-within table h storey direction end some most one two last) in
         rw (held-all, needed-all)
 
-    pub score-is : score (min (held table storey direction) mostHeld) (min (required table storey) mostRequired) (layout table storey direction) (deterioration table)
+    pub score-is :
+        score (min (held table storey direction) mostHeld) (min (required table storey) mostRequired) (layout table storey direction) (deterioration table)
         ≡ fullScore table storey direction
     unfolding fullScore
     score-is =

@@ -6,7 +6,7 @@ use denote.Ref.{now}
 use lib.ListN.{length}
 use borrow.Author.Needs.{needs}
 use Rattle.diagnosis.specs.House.{heldBy}
-use Rattle.diagnosis.proofs.Sums.{no-walls, walls-short, held-within}
+use Rattle.diagnosis.proofs.Sums.{no-walls, walls-short, sums-within}
 use Rattle.diagnosis.proofs.Standing.{house-inside}
 use Rattle.diagnosis.proofs.strengths.held_by.Statement.{statement}
 use Rattle.diagnosis.proofs.strengths.held_by.Tie as tie
@@ -25,11 +25,9 @@ with-wall-requires c κs =
     let at-loop = c .before in
     let start = at-loop .before .before .before in
     let n = at-loop .loop .row in
-    let within = held-within _ (start .pre .0) (start .args .storey) (start .pre .1) in
-    let few : n ≤ length (now (start .args .walls)) / 8 = omega arith in (
-      house-inside _ (start .pre .0),
-      ((omega arith, walls-short _ (start .pre .0) (start .args .storey) (start .pre .1) n (omega arith)), ((rw (at-loop .loop .inv .1) (within _ n few), rw (at-loop .loop .inv .1) (within _ n few), rw (at-loop .loop .inv .1) (within _ n few)), at-loop .loop .inv .1)),
-    )
+    let short = walls-short _ (start .pre .0) (start .args .storey) (start .pre .1) n (omega arith) in
+    let small = sums-within _ (start .pre .0) (start .args .storey) (start .pre .1) (start .args .direction) n (omega arith) (at-loop .loop .inv .1) in
+    (house-inside _ (start .pre .0), ((omega arith, short), (small, at-loop .loop .inv .1)))
 
 add-row : tie.Need-add-row Inv-loop μ-loop
 add-row c = search needs
