@@ -1,4 +1,13 @@
 // What is worked out for a storey and direction.
+use crate::numbers::AGE;
+use crate::numbers::END_AREA;
+use crate::numbers::FLOOR_AREA;
+use crate::numbers::FLOOR_TYPE;
+use crate::numbers::MARKED;
+use crate::numbers::PART_STOREYS;
+use crate::numbers::PRESENT;
+use crate::numbers::STOREYS;
+use crate::numbers::VOID;
 use crate::numbers::cell;
 use crate::strengths::held_by;
 use crate::strengths::required_of;
@@ -37,7 +46,12 @@ fn storey_required(table: &[u32], storey: usize) -> u64
     requires { ⌜ (1 ≤ storey) × (storey ≤ storeys (now table)) ⌝ }
     ensures { λ r. ⌜ r ≡ required (now (table .entry)) storey ⌝ }
 {
-    required_of(table, storey, cell(table, 0, 1), cell(table, storey, 2))
+    required_of(
+        table,
+        storey,
+        cell(table, 0, STOREYS),
+        cell(table, storey, FLOOR_AREA),
+    )
 }
 
 // The band of an end, 0 for end a and 1 for end b, whose solid walls hold so much.
@@ -48,10 +62,10 @@ fn end_band(table: &[u32], storey: usize, direction: usize, end: usize, holds: u
     requires { ⌜ holds ≡ endHeld (now table) storey direction end ⌝ }
     ensures { λ r. ⌜ r ≡ endBand (now (table .entry)) storey direction end ⌝ }
 {
-    let storeys = cell(table, 0, 1) as usize;
+    let storeys = cell(table, 0, STOREYS) as usize;
     let row = storeys + 1 + 2 * (storey - 1) + (direction - 1);
-    let part = cell(table, row, 5 + end);
-    let area = cell(table, row, 3 + end);
+    let part = cell(table, row, PART_STOREYS + end);
+    let area = cell(table, row, END_AREA + end);
     band(holds, required_of(table, storey, part, area))
 }
 
@@ -61,7 +75,7 @@ fn storey_floor_type(table: &[u32], storey: usize) -> u32
     requires { ⌜ (1 ≤ storey) × (storey ≤ storeys (now table)) ⌝ }
     ensures { λ r. ⌜ r ≡ storeyFloorType (now (table .entry)) storey ⌝ }
 {
-    floor_type(cell(table, storey, 4), cell(table, storey, 5))
+    floor_type(cell(table, storey, FLOOR_TYPE), cell(table, storey, VOID))
 }
 
 // The house's deterioration factor. The parts row is the last.
@@ -71,9 +85,9 @@ pub(crate) fn deterioration(table: &[u32]) -> Fraction
 {
     let parts = table.len() / ROW - 1;
     deterioration_factor(
-        cell(table, parts, 1),
-        cell(table, parts, 2),
-        cell(table, 0, 6),
+        cell(table, parts, PRESENT),
+        cell(table, parts, MARKED),
+        cell(table, 0, AGE),
     )
 }
 

@@ -3,6 +3,7 @@ use crate::assessment::Assessment;
 use crate::assessment::Directions;
 use crate::assessment::assess_storey;
 use crate::assessment::deterioration;
+use crate::numbers::STOREYS;
 use crate::numbers::cell;
 use crate::scores::lesser;
 use answer::Answer;
@@ -95,7 +96,7 @@ fn fill_results(table: &[u32], rows: &mut [u32]) -> u32
     ensures { λ _. ⌜ now (rows .exit) ≡ over (now (rows .entry)) (resultRows (now (table .entry))) ⌝ }
 {
     let factor = deterioration(table);
-    let storeys = cell(table, 0, 1) as usize;
+    let storeys = cell(table, 0, STOREYS) as usize;
     let mut least = 999;
     let mut below = 0;
     while below < storeys {
@@ -121,7 +122,7 @@ fn print_report(table: &[u32], rows: &mut [u32], report: &mut [u8])
     ensures { λ _. ⌜ now (report .exit) ≡ over (now (report .entry)) (reportBytes (now (table .entry))) ⌝ }
 {
     let least = fill_results(table, rows);
-    let results = 2 * ROW * cell(table, 0, 1) as usize;
+    let results = 2 * ROW * cell(table, 0, STOREYS) as usize;
     let numbers = results + ROW;
     put_row(verdict_row(least), &mut rows[results..numbers]);
     print_rows(&rows[0..numbers], report);
@@ -133,7 +134,7 @@ fn report_accepted(table: &[u32], report: &mut [u8]) -> Answer
     ensures { λ r. ⌜ told r ≡ reporting (now (table .entry)) (length (now (report .entry))) ⌝ }
     ensures { λ _. ⌜ now (report .exit) ≡ afterReporting (now (table .entry)) (now (report .entry)) ⌝ }
 {
-    let lines = 2 * cell(table, 0, 1) as usize + 1;
+    let lines = 2 * cell(table, 0, STOREYS) as usize + 1;
     let length = LINE * lines;
     if report.len() < length {
         return Answer::Refused {

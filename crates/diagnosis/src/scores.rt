@@ -1,6 +1,7 @@
 // A table scored: its record, or the refusal.
 use crate::assessment::assess_storey;
 use crate::assessment::deterioration;
+use crate::numbers::STOREYS;
 use crate::numbers::cell;
 use answer::Answer;
 use method::verdict;
@@ -49,7 +50,7 @@ fn record_of(table: &[u32]) -> Record
     requires { ⌜ judging (now table) .number ≡ 0 ⌝ }
     ensures { λ r. ⌜ r ≡ recordOf (now (table .entry)) ⌝ }
 {
-    let storeys = cell(table, 0, 1) as usize;
+    let storeys = cell(table, 0, STOREYS) as usize;
     let factor = deterioration(table);
     let mut scores = [0u32; 6];
     let mut least = 999;

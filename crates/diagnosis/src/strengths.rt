@@ -1,4 +1,16 @@
 // What a storey holds in a direction, whole and at each end, and what is required of it.
+use crate::numbers::DIRECTION;
+use crate::numbers::FOUNDATION;
+use crate::numbers::GROUND;
+use crate::numbers::JOINT;
+use crate::numbers::LENGTH;
+use crate::numbers::PLACE;
+use crate::numbers::SHORT_SIDE;
+use crate::numbers::STOREYS;
+use crate::numbers::STRENGTH;
+use crate::numbers::WALL_TYPE;
+use crate::numbers::WEIGHT;
+use crate::numbers::ZONE;
 use crate::numbers::cell;
 use answer::ROW;
 use method::narrow_factor;
@@ -12,6 +24,13 @@ ghost use Rattle.survey.specs.Table.{cell, storeys};
 ghost use Rattle.survey.specs.Judgement.{judging};
 ghost use Rattle.survey.specs.Walls.{storeyWalls};
 ghost use Rattle.diagnosis.specs.House.{share, heldBy, requiredOf};
+
+// The type of a solid wall, and the places of the walls at ends a and b.
+const SOLID: u32 = 1;
+
+const END_A: u32 = 1;
+
+const END_B: u32 = 3;
 
 // What walls of a storey and direction hold: all of them, and the solid ones at ends a and b.
 pub struct Held {
@@ -27,13 +46,13 @@ fn share(table: &[u32], storey: u32, walls: &[u32], row: usize) -> u64
     ensures { λ r. ⌜ r ≡ share (now (table .entry)) storey (now (walls .entry)) row ⌝ }
 {
     wall_share(
-        cell(table, 0, 1),
+        cell(table, 0, STOREYS),
         storey,
-        cell(table, 0, 5),
-        cell(walls, row, 7),
-        cell(walls, row, 6),
-        cell(walls, row, 4),
-        cell(walls, row, 5),
+        cell(table, 0, FOUNDATION),
+        cell(walls, row, WALL_TYPE),
+        cell(walls, row, JOINT),
+        cell(walls, row, STRENGTH),
+        cell(walls, row, LENGTH),
     )
 }
 
@@ -52,21 +71,21 @@ fn with_wall(
     requires { ⌜ sums ≡ heldBy (now table) storey (now walls) direction row ⌝ }
     ensures { λ r. ⌜ r ≡ heldBy (now (table .entry)) storey (now (walls .entry)) direction (row + 1) ⌝ }
 {
-    if cell(walls, row, 2) != direction {
+    if cell(walls, row, DIRECTION) != direction {
         return sums;
     }
     let counted = share(table, storey, walls, row);
     let mut next = sums;
     next.all = sums.all + counted;
-    if cell(walls, row, 7) != 1 {
+    if cell(walls, row, WALL_TYPE) != SOLID {
         return next;
     }
-    let place = cell(walls, row, 3);
-    if place == 1 {
+    let place = cell(walls, row, PLACE);
+    if place == END_A {
         next.a = sums.a + counted;
         return next;
     }
-    if place == 3 {
+    if place == END_B {
         next.b = sums.b + counted;
         return next;
     }
@@ -96,16 +115,16 @@ pub(crate) fn required_of(table: &[u32], storey: usize, part: u32, area: u32) ->
     ensures { λ r. ⌜ r ≡ requiredOf (now (table .entry)) storey part area ⌝ }
 {
     let number = storey as u32;
-    let storeys = cell(table, 0, 1);
-    let narrow = narrow_factor(storeys, number, cell(table, storey, 3));
-    let zone = cell(table, 0, 3) as u8;
+    let storeys = cell(table, 0, STOREYS);
+    let narrow = narrow_factor(storeys, number, cell(table, storey, SHORT_SIDE));
+    let zone = cell(table, 0, ZONE) as u8;
     required_strength(
         part,
         number,
-        cell(table, 0, 2),
+        cell(table, 0, WEIGHT),
         area,
         zone,
-        cell(table, 0, 4),
+        cell(table, 0, GROUND),
         narrow,
     )
 }
