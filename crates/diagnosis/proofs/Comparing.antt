@@ -20,16 +20,14 @@ use Rattle.survey.proofs.Alike.{parts-row-alike, walls-alike}
 use Rattle.method.specs.Required.{narrowFactor}
 use Rattle.method.proofs.Requirements.{narrow-least, required-rises, required-positive}
 use Rattle.method.proofs.Bands.{floor-most}
-use Rattle.method.proofs.Fractions.{_at-most_, deterioration-bounded, deterioration-falls}
+use Rattle.method.proofs.Fractions.{_at-most_, deterioration-falls}
 use Rattle.method.proofs.Comparisons.{score-before-falls, full-score-falls, verdict-rises}
-use Rattle.diagnosis.specs.House.{ground, foundation, present, marked, age, endA, endB, share, heldWhere, held, endHeld, requiredOf, required, endRequired, endBand, higherBand, storeyFloorType, layout, deterioration, scoreBefore, fullScore, scores, leastScore, houseVerdict}
+use Rattle.diagnosis.specs.House.{ground, foundation, present, marked, endA, endB, share, heldWhere, held, endHeld, requiredOf, required, endRequired, endBand, higherBand, storeyFloorType, layout, deterioration, scoreBefore, fullScore, scores, leastScore, houseVerdict}
 use Rattle.diagnosis.specs.Answers.{recordOf}
 use Rattle.diagnosis.specs.Comparison.{mayDiffer, Worse, InHouse, Kept, NoBetter}
 use Rattle.diagnosis.proofs.Listed.{scores-length, score-at, record-score, record-told, least-falls, in-house-at}
-
-lower-some : (table : List ℕ) → 0 < deterioration table .lower
-unfolding deterioration
-lower-some table = deterioration-bounded (present table) (marked table) (age table) .lower-positive
+use Rattle.diagnosis.proofs.Standing.{storeys-few}
+use Rattle.diagnosis.proofs.Within.{lower-some}
 
 module _ (A B : List ℕ) (w : Worse A B) where
   a : Accepted A
@@ -120,13 +118,10 @@ module _ (A B : List ℕ) (w : Worse A B) where
         required-rises (s .some-storey) most few (a .house-inside 2 (omega arith) .0) (w .heavier) (b .house-inside 2 (omega arith) .1)
         (le-refl area) (w .higher) (w .softer) (le-of-eq narrow-same)
 
-    storeys-few : storeys A ≤ 3
-    storeys-few = a .house-inside 1 (omega arith) .1
-
     storey-required : required A storey ≤ required B storey
     unfolding required
     storey-required =
-        rw (← storeys-same, ← storey-same 2 (omega arith)) (required-of-rises (storeys A) (cell A storey 2) (s .last-storey) storeys-few)
+        rw (← storeys-same, ← storey-same 2 (omega arith)) (required-of-rises (storeys A) (cell A storey 2) (s .last-storey) (storeys-few A (w .A-accepted) .1))
 
     required-some : 0 < required A storey
     unfolding required requiredOf
@@ -134,7 +129,7 @@ module _ (A B : List ℕ) (w : Worse A B) where
         let class = a .house-inside 2 (omega arith) in
         let area = a .storey-inside storey (s .some-storey) (s .last-storey) 2 (omega arith) in
         let narrow = narrow-least (storeys A) storey (cell A storey 3) in
-        required-positive (ground A) (s .some-storey) (s .last-storey) storeys-few (class .0) (class .1)
+        required-positive (ground A) (s .some-storey) (s .last-storey) (storeys-few A (w .A-accepted) .1) (class .0) (class .1)
         (area .0) (omega (arith, accepted-zone a)) (omega (arith, narrow))
 
     -- And of an end.
@@ -166,7 +161,7 @@ module _ (A B : List ℕ) (w : Worse A B) where
         let known = part-storeys end inside in
         let row = endsRow A storey direction in
         rw (← ends-same (5 + end) (omega arith), ← ends-same (3 + end) (omega arith))
-        (required-of-rises (cell A row (5 + end)) (cell A row (3 + end)) (known .0) (omega (arith, known, storeys-few)))
+        (required-of-rises (cell A row (5 + end)) (cell A row (3 + end)) (known .0) (omega (arith, known, storeys-few A (w .A-accepted))))
 
     -- The score before the layout factor is no higher.
     before-falls : scoreBefore B storey direction ≤ scoreBefore A storey direction

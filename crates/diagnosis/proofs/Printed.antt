@@ -1,13 +1,12 @@
 -- Every number of a report is printed whole: none is over 99,999,999, so the report is the sheet that `sheet` writes of its rows. Assumes
 -- nothing.
 use mathlib.Core.Path.{_≡_}
-use mathlib.Core.Bool.{true}
-use mathlib.Core.List.{List, [], _∷_, _++_}
+use mathlib.Core.List.{List, [], _∷_}
 use Prim.Native.Nat.{ℕ, zero, suc, _+_, _*_, _<_, _≤_}
 use native.Mathlib.Nat.{le-trans, div-le-self}
 use native.Mathlib.Omega.{arith}
 use lib.ListN.{length, getD}
-use lib.Dec.{T, lit≤}
+use lib.Dec.{lit≤}
 use borrow.Author.Tests.{le-ltb}
 use Rattle.answer.specs.Told.{counted}
 use Rattle.sheet.specs.Line.{joined}
@@ -16,34 +15,25 @@ use Rattle.sheet.proofs.Answers.{Writable, writable-accepted}
 use Rattle.survey.specs.Table.{storeys}
 use Rattle.survey.specs.Judgement.{judging}
 use Rattle.method.specs.declared.deterioration.Fraction.{Fraction}
+use Rattle.method.proofs.Tables.{AllAtMost, all-at, all-append}
 use Rattle.method.proofs.Bands.{layout-most}
 use Rattle.method.proofs.Fractions.{Bounded, deterioration-bounded}
 use Rattle.method.proofs.Comparisons.{verdict-most}
 use Rattle.diagnosis.specs.House.{age, present, marked, layout, deterioration, scores, leastOf, leastScore, assessment}
 use Rattle.diagnosis.specs.Report.{hundredths, resultRow, storeyRows, resultRows, verdictRow, reportRows, reportLines, reportBytes}
 use Rattle.diagnosis.proofs.Standing.{storeys-few, required-within}
-use Rattle.diagnosis.proofs.Sums.{held-most}
+use Rattle.diagnosis.proofs.Sums.{storey-held-most}
 use Rattle.diagnosis.proofs.Listed.{score-small}
 use Rattle.diagnosis.proofs.Rows.{report-length}
 
 -- No number of a list is too large for a field.
 abbrev Small : List ℕ → Type 0
-Small [] = T true
-Small (n ∷ list) = (n ≤ 99999999) × Small list
-
-small-at : (list : List ℕ) → Small list → (i : ℕ) → getD list i 0 ≤ 99999999
-small-at [] small i = lit≤ tt
-small-at (n ∷ list) small zero = small .0
-small-at (n ∷ list) small (suc i) = small-at list (small .1) i
-
-small-append : (one other : List ℕ) → Small one → Small other → Small (one ++ other)
-small-append [] other first second = second
-small-append (n ∷ one) other first second = (first .0, small-append one other (first .1) second)
+Small = AllAtMost 99999999
 
 small-joined : (n : ℕ) (f : ℕ → List ℕ) → ((i : ℕ) → i < n → Small (f i)) → Small (joined n f)
 unfolding joined
 small-joined zero f each = tt
-small-joined (suc n) f each = small-append (joined n f) (f n) (small-joined n f (λ i l. each i (omega arith))) (each n (omega arith))
+small-joined (suc n) f each = all-append 99999999 (joined n f) (f n) (small-joined n f (λ i l. each i (omega arith))) (each n (omega arith))
 
 -- The least of some scores is at most 999, and a fraction of at most 1 at most 100 hundredths.
 least-most : (some : List ℕ) → leastOf some ≤ 999
@@ -67,7 +57,7 @@ module _ (table : List ℕ) (h : judging table .number ≡ 0) where
       → Small (resultRow storey direction (assessment table storey direction) (deterioration table))
   result-small storey direction some most two =
       let number : storey ≤ 99999999 = omega (arith, storeys-few table h) in
-      let holds = held-most table h storey direction in
+      let holds = storey-held-most table h storey direction in
       let needs = required-within table h some most in
       let score = le-trans (score-small table storey direction) (lit≤ tt) in
       (lit≤ tt, (number, (omega arith, (omega (arith, holds), (omega (arith, needs), (layout-small storey direction, (factor-small, (score, tt))))))))
@@ -75,20 +65,20 @@ module _ (table : List ℕ) (h : judging table .number ≡ 0) where
   storey-small : (below : ℕ) → below < storeys table → Small (storeyRows table (below + 1))
   storey-small below inside =
       let row : ℕ → List ℕ = λ direction. resultRow (below + 1) direction (assessment table (below + 1) direction) (deterioration table) in
-      small-append (row 1) (row 2) (result-small (below + 1) 1 (omega arith) (omega arith) (lit≤ tt))
+      all-append 99999999 (row 1) (row 2) (result-small (below + 1) 1 (omega arith) (omega arith) (lit≤ tt))
       (result-small (below + 1) 2 (omega arith) (omega arith) (lit≤ tt))
 
   report-small : Small (reportRows table)
   unfolding reportRows resultRows leastScore
   report-small =
-      small-append (resultRows table) (verdictRow (leastScore table))
+      all-append 99999999 (resultRows table) (verdictRow (leastScore table))
       (small-joined (storeys table) (λ below. storeyRows table (below + 1)) storey-small) (
         lit≤ tt,
         (le-trans (verdict-most (leastScore table)) (lit≤ tt), (le-trans (least-most (scores table)) (lit≤ tt), (lit≤ tt, (lit≤ tt, (lit≤ tt, (lit≤ tt, (lit≤ tt, tt))))))),
       )
 
   pub report-fits : (i : ℕ) → getD (reportRows table) i 0 ≤ 99999999
-  report-fits = small-at (reportRows table) report-small
+  report-fits = all-at 99999999 (reportRows table) report-small
 
   -- So it is what writing the rows gives.
   report-writable : Writable (reportRows table) (reportLines table)

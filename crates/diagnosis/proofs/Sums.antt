@@ -1,12 +1,12 @@
 -- What a storey's walls hold, wall by wall: with one wall more, and at most. Assumes nothing.
 use mathlib.Core.Path.{_≡_, refl, ap, _∙_}
-use mathlib.Core.Bool.{Bool, true, false}
-use mathlib.Core.List.{List, append-nil}
-use Prim.Native.Nat.{ℕ, zero, suc, _+_, _*_, _/_, _<_, _≤_}
+use mathlib.Core.Bool.{Bool, true, false, cond}
+use mathlib.Core.List.{List, [], _∷_, append-nil}
+use Prim.Native.Nat.{ℕ, zero, suc, _+_, _/_, _<_, _≤_}
 use native.Mathlib.Nat.{add-zero, le-refl}
 use native.Mathlib.Numerals.{add-one}
 use native.Mathlib.Omega.{arith}
-use lib.ListN.{length}
+use lib.ListN.{length, length-append}
 use lib.Dec.{lit≤}
 use borrow.Author.Tests.{eq-eqb, ne-eqb}
 use Rattle.survey.specs.Table.{cell, storeys}
@@ -15,7 +15,8 @@ use Rattle.survey.specs.Walls.{rowsFrom, storeyWalls}
 use Rattle.survey.proofs.Acceptance.{Accepted, accepted}
 use Rattle.survey.proofs.Shown.{Shown, shown, rows-cell, rows-length}
 use Rattle.method.specs.Held.{heldStrength, mostHeld}
-use Rattle.method.proofs.Shares.{mostShare, share-most, held-append}
+use Rattle.method.proofs.Tables.{AllAtMost, all-append}
+use Rattle.method.proofs.Shares.{mostShare, share-most, held-append, held-most}
 use Rattle.diagnosis.specs.declared.strengths.Held.{Held}
 use Rattle.diagnosis.specs.House.{foundation, endA, endB, place, share, sharesWhere, heldWhere, inDirection, solidAtEnd, held, endHeld, heldBy}
 
@@ -39,20 +40,31 @@ module _ (table : List ℕ) (storey : ℕ) (walls : List ℕ) where
   unfolding heldWhere sharesWhere
   left test n e = rw (add-one, e, append-nil)
 
-  -- A wall of at most 20 m counts at most so much, and so many of them hold at most so much.
+  -- A wall of at most 20 m counts at most so much, and so do those of the first walls that a test takes.
   pub share-at-most : (row : ℕ) → cell walls row 5 ≤ 20000 → counts row ≤ mostShare
   unfolding share
   share-at-most row short =
       share-most (storeys table) storey (foundation table) (cell walls row 6) (cell walls row 4) (cell walls row 5) short (cell walls row 7)
 
-  held-at-most : (test : ℕ → Bool) (n : ℕ) → ((k : ℕ) → k < n → cell walls k 5 ≤ 20000) → sum test n ≤ n * mostShare
-  held-at-most test zero short = rw (none test) (lit≤ tt)
-  held-at-most test (suc n) short =
-      rw (← add-one) (go (test n) refl (share-at-most n (short n (omega arith))) (held-at-most test n (λ k l. short k (omega arith))))
+  shares-few : (test : ℕ → Bool) (n : ℕ) → length (sharesWhere test counts n) ≤ n
+  unfolding sharesWhere
+  shares-few test zero = lit≤ tt
+  shares-few test (suc n) = rw length-append (go (test n) (shares-few test n))
     where
-      go : (b : Bool) → test n ≡ b → counts n ≤ mostShare → sum test n ≤ n * mostShare → sum test (n + 1) ≤ (n + 1) * mostShare
-      go true e last h = rw (taken test n e) (omega arith)
-      go false e last h = rw (left test n e) (omega arith)
+      go : (b : Bool) → length (sharesWhere test counts n) ≤ n → length (sharesWhere test counts n) + length (cond b (counts n ∷ []) []) ≤ suc n
+      go true h = omega arith
+      go false h = omega arith
+
+  shares-small : (test : ℕ → Bool) (n : ℕ) → ((k : ℕ) → k < n → cell walls k 5 ≤ 20000) → AllAtMost mostShare (sharesWhere test counts n)
+  unfolding sharesWhere
+  shares-small test zero short = tt
+  shares-small test (suc n) short =
+      all-append mostShare (sharesWhere test counts n) _ (shares-small test n (λ k l. short k (omega arith)))
+      (go (test n) (share-at-most n (short n (omega arith))))
+    where
+      go : (b : Bool) → counts n ≤ mostShare → AllAtMost mostShare (cond b (counts n ∷ []) [])
+      go true h = (h, tt)
+      go false h = tt
 
   module _ (direction : ℕ) where
     abbrev along : ℕ → Bool
@@ -136,17 +148,19 @@ module _ (table : List ℕ) (h : judging table .number ≡ 0) (storey : ℕ) {wa
 
   -- So no sum over them is above what `method` computes with.
   pub held-within : (test : ℕ → Bool) (n : ℕ) → n ≤ length walls / 8 → heldWhere test table storey walls n ≤ mostHeld
+  unfolding heldWhere
   held-within test n few =
-      omega (arith, held-at-most table storey walls test n (λ k l. walls-short k (omega arith)), walls-count, s .few)
+      held-most (sharesWhere test (share table storey walls) n)
+      (omega (arith, shares-few table storey walls test n, walls-count, s .few)) (shares-small table storey walls test n (λ k l. walls-short k (omega arith)))
 
   pub sums-within : (direction n : ℕ) {sums : Held} → n ≤ length walls / 8 → sums ≡ heldBy table storey walls direction n
       → (sums .all ≤ mostHeld) × (sums .a ≤ mostHeld) × (sums .b ≤ mostHeld)
   sums-within direction n few e = (rw e (held-within _ n few), rw e (held-within _ n few), rw e (held-within _ n few))
 
 module _ (table : List ℕ) (h : judging table .number ≡ 0) (storey direction : ℕ) where
-  pub held-most : held table storey direction ≤ mostHeld
+  pub storey-held-most : held table storey direction ≤ mostHeld
   unfolding held
-  held-most = held-within table h storey refl _ _ (le-refl _)
+  storey-held-most = held-within table h storey refl _ _ (le-refl _)
 
   pub end-held-most : (end : ℕ) → endHeld table storey direction end ≤ mostHeld
   unfolding endHeld

@@ -14,7 +14,7 @@ use Rattle.method.proofs.Fractions.{deterioration-bounded}
 use Rattle.diagnosis.specs.declared.assessment.Assessment.{Assessment}
 use Rattle.diagnosis.specs.House.{age, present, marked, held, endHeld, required, endRequired, endBand, layout, deterioration, fullScore, assessment}
 use Rattle.diagnosis.proofs.Standing.{required-within, end-required-within}
-use Rattle.diagnosis.proofs.Sums.{held-most, end-held-most}
+use Rattle.diagnosis.proofs.Sums.{storey-held-most, end-held-most}
 
 module _
     (table : List ℕ) (h : judging table .number ≡ 0) (storey direction : ℕ)
@@ -38,17 +38,21 @@ module _
     score-is =
         let holds = held table storey direction in
         let needs = required table storey in
-        let held-all : min holds mostHeld ≡ holds = omega (arith, held-most table h storey direction) in
+        let held-all : min holds mostHeld ≡ holds = omega (arith, storey-held-most table h storey direction) in
         let needed-all : min needs mostRequired ≡ needs = omega (arith, required-within table h some most) in
         rw (held-all, needed-all)
+
+-- The lower number of the deterioration factor is positive.
+pub lower-some : (table : List ℕ) → 0 < deterioration table .lower
+unfolding deterioration
+lower-some table = deterioration-bounded (present table) (marked table) (age table) .lower-positive
 
 -- So a row of the report can be made of them.
 pub row-fits : (table : List ℕ) → judging table .number ≡ 0 → (storey direction : ℕ) → 1 ≤ storey → storey ≤ storeys table
     → {found : Assessment} {factor : Fraction} → found ≡ assessment table storey direction → factor ≡ deterioration table
     → (found .held ≤ mostHeld) × (found .required ≤ mostRequired) × (0 < factor .lower)
-unfolding deterioration
 row-fits table h storey direction some most e f = (
-  rw e (held-most table h storey direction),
+  rw e (storey-held-most table h storey direction),
   rw e (required-within table h some most),
-  rw f (deterioration-bounded (present table) (marked table) (age table) .lower-positive),
+  rw f (lower-some table),
 )

@@ -1,12 +1,13 @@
 -- How much a wall can count, and how much a house's walls together. Assumes nothing.
 use mathlib.Core.Path.{_≡_, sym}
 use mathlib.Core.List.{List, [], _∷_, _++_}
-use Prim.Native.Nat.{ℕ, suc, _+_, _*_, _<_, _≤_, suc-le-suc, min}
-use native.Mathlib.Nat.{min-le-right, mul-le-mul, mul-le-mul-right, zero-add, zero-lt-suc}
+use Prim.Native.Nat.{ℕ, _+_, _*_, _≤_, min}
+use native.Mathlib.Nat.{min-le-right, mul-le-mul, mul-le-mul-right, zero-add}
 use native.Mathlib.Omega.{arith}
-use lib.ListN.{length, getD}
+use lib.ListN.{length}
 use lib.Dec.{eqb, lit≤}
 use Rattle.method.specs.Held.{solidShare, openingShare, wallShare, heldStrength, mostHeld}
+use Rattle.method.proofs.Tables.{AllAtMost}
 use Rattle.method.proofs.Branches.{cond-most}
 use Rattle.method.proofs.Factors.{joint-most}
 
@@ -41,17 +42,15 @@ held-append [] other = sym (zero-add (heldStrength other))
 held-append (share ∷ shares) other = omega (arith, held-append shares other)
 
 -- The sum over walls that each count at most so much.
-pub held-per-wall : (shares : List ℕ) → ((k : ℕ) → k < length shares → getD shares k 0 ≤ mostShare) → heldStrength shares ≤ length shares * mostShare
+pub held-per-wall : (shares : List ℕ) → AllAtMost mostShare shares → heldStrength shares ≤ length shares * mostShare
 unfolding heldStrength
 held-per-wall [] each = lit≤ tt
 held-per-wall (share ∷ shares) each =
-    let here : share ≤ mostShare = each 0 (zero-lt-suc (length shares)) in
-    let rest : heldStrength shares ≤ length shares * mostShare = held-per-wall shares (λ k h. each (suc k) (suc-le-suc h)) in
-    omega arith
+    let rest : heldStrength shares ≤ length shares * mostShare = held-per-wall shares (each .1) in
+    omega (arith, each .0)
 
 -- 300 walls hold at most 60,000,000,000.
-pub held-most : (shares : List ℕ) → length shares ≤ 300 → ((k : ℕ) → k < length shares → getD shares k 0 ≤ mostShare)
-    → heldStrength shares ≤ mostHeld
+pub held-most : (shares : List ℕ) → length shares ≤ 300 → AllAtMost mostShare shares → heldStrength shares ≤ mostHeld
 held-most shares few each =
     let all : heldStrength shares ≤ length shares * mostShare = held-per-wall shares each in
     omega arith

@@ -1,8 +1,8 @@
 -- Printed tables: an element by its number, and rules that hold throughout a table by one test that is computed. Assumes nothing.
 use mathlib.Core.Path.{_≡_, refl, sym, ap, subst}
 use mathlib.Core.Bool.{Bool, true, false, not, _&&_, _||_}
-use mathlib.Core.List.{List, [], _∷_}
-use Prim.Native.Nat.{ℕ, zero, suc, _-_, _<_, _≤_}
+use mathlib.Core.List.{List, [], _∷_, _++_}
+use Prim.Native.Nat.{ℕ, zero, suc, _-_, _<_, _≤_, zero-le}
 use native.Mathlib.Omega.{arith}
 use native.Mathlib.Decide.{decLt}
 use lib.ListN.{length, getD, List·getD-eq-default}
@@ -47,6 +47,20 @@ module _ {A : Type 0} (passes : A → Bool) {none : A} (default : passes none �
   unfolding nth
   nth-every list h zero = default
   nth-every list h (suc n) = getD-every list h n
+
+-- Every number of a list is at most so many.
+abbrev pub AllAtMost : ℕ → List ℕ → Type 0
+AllAtMost most [] = T true
+AllAtMost most (n ∷ list) = (n ≤ most) × AllAtMost most list
+
+pub all-at : (most : ℕ) (list : List ℕ) → AllAtMost most list → (i : ℕ) → getD list i 0 ≤ most
+all-at most [] all i = zero-le
+all-at most (n ∷ list) all zero = all .0
+all-at most (n ∷ list) all (suc i) = all-at most list (all .1) i
+
+pub all-append : (most : ℕ) (one other : List ℕ) → AllAtMost most one → AllAtMost most other → AllAtMost most (one ++ other)
+all-append most [] other first second = second
+all-append most (n ∷ one) other first second = (first .0, all-append most one other (first .1) second)
 
 -- The test that an entry is at most so many.
 abbrev pub small : ℕ → ℕ → Bool
