@@ -1,12 +1,15 @@
 -- The scores of a house as they are listed: storey by storey, in the record, and the least of them. Assumes nothing.
 use mathlib.Core.Path.{_≡_, refl, sym, ap, _∙_}
+use mathlib.Core.Bool.{Bool, true, false, cond}
 use mathlib.Core.List.{List, [], _∷_, _++_, append-assoc}
 use Prim.Native.Nat.{ℕ, _+_, _*_, _<_, min, zero, suc, _-_, _/_, _%_, _≤_}
 use native.Mathlib.Numerals.{add-one}
 use native.Mathlib.Decide.{decLt}
 use native.Mathlib.Omega.{arith}
 use lib.ListN.{length, set, length-append, getD, drop, List·getD-append}
+use lib.Dec.{eqb}
 use borrow.Author.Tests.{eq-eqb}
+use Rattle.answer.specs.Told.{Told, accepts}
 use Rattle.sheet.specs.Line.{joined}
 use Rattle.sheet.specs.Sheet.{over}
 use Rattle.sheet.proofs.Lists.{over-set, joined-length, joined-part, part-at}
@@ -18,7 +21,7 @@ use Rattle.diagnosis.specs.declared.scores.Outcome.the-variants.{Scored,
 use Rattle.diagnosis.specs.declared.scores.Record.{Record}
 use Rattle.diagnosis.specs.declared.scores.Scoring.{Scoring}
 use Rattle.diagnosis.specs.House.{held, required, layout, deterioration, fullScore, storeyScores, scores, leastOf, leastScore}
-use Rattle.diagnosis.specs.Answers.{noScores, ToldScoring, toldOutcome, toldScoring, recordOf, scoring}
+use Rattle.diagnosis.specs.Answers.{noScores, noRecord, ToldScoring, toldOutcome, toldScoring, recordOf, scoring}
 use Rattle.diagnosis.specs.Comparison.{InHouse, scoreAt}
 use Rattle.diagnosis.proofs.Standing.{storeys-few}
 
@@ -87,6 +90,20 @@ pub record-told : (table : List ℕ) (a : Scoring) → judging table .number ≡
 unfolding scoring
 record-told table a h e =
     sym (told-result (a .outcome) (a .result)) ∙ ap (λ (x : ToldScoring). x .result) e ∙ rw (eq-eqb (judging table .number) 0 h)
+
+-- A table is scored just where the refusal's number is 0.
+pub scored-by-number : (table : List ℕ) → scoring table .scored ≡ eqb (scoring table .number) 0
+unfolding scoring
+scored-by-number table = go (accepts (judging table)) refl
+  where
+    judged : Told
+    judged = judging table
+
+    go : (accepted : Bool) → accepts judged ≡ accepted
+        → (cond accepted (toldOutcome Scored (recordOf table)) (toldOutcome (Refused (judged .number) (judged .row) (judged .column)) noRecord)) .scored
+        ≡ eqb ((cond accepted (toldOutcome Scored (recordOf table)) (toldOutcome (Refused (judged .number) (judged .row) (judged .column)) noRecord)) .number) 0
+    go true e = refl
+    go false e = sym e
 
 -- The storey and direction of a place among the scores.
 pub in-house-at : (table : List ℕ) (i : ℕ) → i < 2 * storeys table → InHouse table (i / 2 + 1) (i % 2 + 1)

@@ -8,7 +8,7 @@ use native.Mathlib.Omega.{arith}
 use lib.Dec.{ltb}
 use lib.ListN.{length, take}
 use lib.Seq.{take-at}
-use borrow.Author.Tests.{eq-eqb, ne-eqb, lt-ltb, le-ltb, eqb-true, ltb-true}
+use borrow.Author.Tests.{eq-eqb, ne-eqb, lt-ltb, le-ltb, eqb-true, eqb-false, ltb-true, ltb-false}
 use Rattle.answer.specs.declared.Answer.{Answer}
 use Rattle.answer.specs.declared.Answer.the-variants.{Count, Refused}
 use Rattle.answer.specs.Told.{Told, told, counted, refusal, accepts, lent-space-short}
@@ -117,3 +117,30 @@ short-only sheet lent e = go (accepts (reading sheet mostNumbers)) (accepts (jud
     go true true j false l e = absurd (omega arith)
     go true false j c l e = absurd (omega (arith, judging-known table, e))
     go false b j c l e = absurd (never-short sheet mostNumbers (le-refl mostNumbers) e)
+
+-- The bytes that are counted are within those that were lent.
+pub diagnosed-within : (sheet : List ℕ) (lent : ℕ) {answer : Answer} {count : ℕ} → told answer ≡ diagnosing sheet lent → answer ≡ Count count → count ≤ lent
+unfolding diagnosing reporting
+diagnosed-within sheet lent {count = count} diagnosed e =
+    go
+    (accepts (reading sheet mostNumbers))
+    refl
+    (accepts (judging table))
+    refl
+    (ltb lent needed)
+    refl
+    (sym (ap told e) ∙ diagnosed)
+  where
+    table : List ℕ
+    table = tableOf sheet
+
+    needed : ℕ
+    needed = 65 * reportLines table
+
+    go : (a : Bool) → accepts (reading sheet mostNumbers) ≡ a → (b : Bool) → accepts (judging table) ≡ b → (c : Bool) → ltb lent needed ≡ c
+        → counted count ≡ cond a (cond b (cond c (refusal lent-space-short 0 0) (counted needed)) (judging table)) (reading sheet mostNumbers)
+        → count ≤ lent
+    go true r true j true l e = absurd (omega (arith, ap (λ (t : Told). t .number) e))
+    go true r true j false l e = omega (arith, ap (λ (t : Told). t .count) e, ltb-false lent needed l)
+    go true r false j c l e = absurd (eqb-false (judging table .number) 0 j (sym (ap (λ (t : Told). t .number) e)))
+    go false r b j c l e = absurd (eqb-false (reading sheet mostNumbers .number) 0 r (sym (ap (λ (t : Told). t .number) e)))

@@ -1,0 +1,2 @@
+-- The law about answers that cross to a host.
+pub mod Hosted

@@ -1,0 +1,21 @@
+-- `girderbasil::girderbasil_write_report` meets its contract: it is what the report answers. Assumes nothing.
+use mathlib.Core.Path.{_∙_}
+use borrow.Author.Needs.{needs}
+use Rattle.girderbasil.proofs.girderbasil_write_report.Statement.{statement}
+use Rattle.girderbasil.proofs.girderbasil_write_report.Tie as tie
+
+report-requires : tie.Need-report-requires
+report-requires c κs = search needs
+
+host-answer-requires : tie.Need-host-answer-requires
+host-answer-requires c κs = search needs
+
+same-length : tie.Need-same-length
+same-length c = search needs
+
+returns : tie.Need-returns
+returns c = (c .host-answer .ensures ∙ c .before .before .before .report .ensures .0, c .before .before .before .report .ensures .1)
+
+pub girderbasil-write-report-spec : {M : Type 1} → statement M
+girderbasil-write-report-spec =
+    tie.close (tie.spec report-requires host-answer-requires same-length returns)

@@ -1,0 +1,2 @@
+-- What an answer that crosses to a host says.
+pub mod Host

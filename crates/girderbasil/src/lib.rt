@@ -1,0 +1,115 @@
+// The functions that a host program calls, from C or Rust, and nothing else.
+//
+// Uses `answer`, `sheet` and `diagnosis`. Document 01: "The host program on the phone calls it with
+// numbers and byte slices and must get the same answers." A slice crosses as a pointer and its length in
+// elements, an answer as a struct of numbers by value: an enum cannot cross. The definitions that tie
+// these structs to the paper's values stand in specs/Host.antt; include/girderbasil.h is the same
+// interface for C.
+use answer::Answer;
+use diagnosis::Outcome;
+use diagnosis::Record;
+ghost use mathlib.Core.Path.{_≡_};
+ghost use lib.ListN.{length};
+ghost use lib.Dec.{eqb};
+ghost use Rattle.answer.specs.Told.{told};
+ghost use Rattle.sheet.specs.Sheet.{reading, afterReading};
+ghost use Rattle.diagnosis.specs.Answers.{scoring};
+ghost use Rattle.diagnosis.specs.Report.{reporting, afterReporting};
+ghost use Rattle.girderbasil.specs.Host.{toldHost, toldHostScoring};
+
+// A count or a refusal: `number` is 0 where it is a count.
+#[repr(C)]
+pub struct HostAnswer {
+    pub count: u32,
+    pub number: u32,
+    pub row: u32,
+    pub column: u32,
+}
+
+// A record or a refusal: `number` is 0 where the table is scored, and else the record is all 0.
+#[repr(C)]
+pub struct HostScoring {
+    pub number: u32,
+    pub row: u32,
+    pub column: u32,
+    pub scores: [u32; 6],
+    pub count: u32,
+    pub verdict: u32,
+}
+
+// An answer as a host gets it.
+fn host_answer(answer: Answer) -> HostAnswer
+    ensures { λ r. ⌜ toldHost r ≡ told answer ⌝ }
+{
+    match answer {
+        Answer::Count(count) => HostAnswer {
+            count,
+            number: 0,
+            row: 0,
+            column: 0,
+        },
+        Answer::Refused {
+            number,
+            row,
+            column,
+        } => HostAnswer {
+            count: 0,
+            number,
+            row,
+            column,
+        },
+    }
+}
+
+// Reads a sheet into a lent table: the count of rows written, or the refusal. Later numbers stay, and a
+// refusal changes none.
+#[no_mangle]
+pub extern "C" fn girderbasil_read(sheet: &[u8], table: &mut [u32]) -> HostAnswer
+    ensures { λ r. ⌜ toldHost r ≡ reading (now (sheet .entry)) (length (now (table .entry))) ⌝ }
+    ensures { λ _. ⌜ now (table .exit) ≡ afterReading (now (sheet .entry)) (now (table .entry)) ⌝ }
+{
+    host_answer(sheet::read(sheet, table))
+}
+
+// What scoring tells, as a host gets it.
+fn host_scoring(number: u32, row: u32, column: u32, result: Record) -> HostScoring
+    ensures { λ r. ⌜ toldHostScoring r ≡ record { scored = eqb number 0; number = number; row = row; column = column; result = result } ⌝ }
+{
+    let scores = result.scores;
+    HostScoring {
+        number,
+        row,
+        column,
+        scores,
+        count: result.count,
+        verdict: result.verdict,
+    }
+}
+
+// Scores a table: its record, or the refusal.
+#[no_mangle]
+pub extern "C" fn girderbasil_score(table: &[u32]) -> HostScoring
+    ensures { λ r. ⌜ toldHostScoring r ≡ scoring (now (table .entry)) ⌝ }
+{
+    let scoring = diagnosis::score(table);
+    let outcome = scoring.outcome;
+    let result = scoring.result;
+    match outcome {
+        Outcome::Scored => host_scoring(0, 0, 0, result),
+        Outcome::Refused {
+            number,
+            row,
+            column,
+        } => host_scoring(number, row, column, result),
+    }
+}
+
+// Writes a table's report into lent bytes: the count of bytes written, or the refusal. Later bytes stay,
+// and a refusal changes none.
+#[no_mangle]
+pub extern "C" fn girderbasil_write_report(table: &[u32], report: &mut [u8]) -> HostAnswer
+    ensures { λ r. ⌜ toldHost r ≡ reporting (now (table .entry)) (length (now (report .entry))) ⌝ }
+    ensures { λ _. ⌜ now (report .exit) ≡ afterReporting (now (table .entry)) (now (report .entry)) ⌝ }
+{
+    host_answer(diagnosis::report(table, report))
+}

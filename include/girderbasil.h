@@ -1,0 +1,89 @@
+/* Girderbasil: earthquake diagnosis sheets of Japanese wooden houses, scored (general diagnosis, method 1).
+ *
+ * Three functions, from a sheet's bytes to its report's: read, score, write report. Each is proved to
+ * answer what the customer's paper (document 01) defines, for every input, and to leave lent storage as it
+ * defines. None keeps anything between calls, allocates, or calls the system, so any threads may call them.
+ *
+ * What the proof asks of the caller, as any C function does: a pointer stands for as many elements as the
+ * length beside it says, and storage that is lent to be filled overlaps no other argument. With length 0 the
+ * pointer may be null.
+ *
+ * Link target/staticlib/libgirderbasil.a, which `rt staticlib girderbasil` builds (x86-64).
+ */
+#ifndef GIRDERBASIL_H
+#define GIRDERBASIL_H
+
+#include <stddef.h>
+#include <stdint.h>
+
+#ifdef __cplusplus
+extern "C" {
+#endif
+
+/* Refusals, by document 01's numbers. docs/REFUSALS.md explains each. */
+enum {
+    GIRDERBASIL_SHEET_LENGTH = 1,
+    GIRDERBASIL_MISPRINT = 2,
+    GIRDERBASIL_ROW_OUT_OF_ORDER = 3,
+    GIRDERBASIL_OUT_OF_RANGE = 4,
+    GIRDERBASIL_TOO_MANY_WALLS = 5,
+    GIRDERBASIL_ENDS_EXCEED_STOREY = 6,
+    GIRDERBASIL_MARK_ON_ABSENT_PART = 7,
+    GIRDERBASIL_NO_PARTS = 8,
+    GIRDERBASIL_LENT_SPACE_SHORT = 9
+};
+
+/* The bytes of a line, the numbers of a row; and the most that is ever needed of either. */
+enum {
+    GIRDERBASIL_LINE = 65,
+    GIRDERBASIL_ROW = 8,
+    GIRDERBASIL_MOST_ROWS = 311,
+    GIRDERBASIL_MOST_REPORT_BYTES = 7 * GIRDERBASIL_LINE
+};
+
+/* A count or a refusal. */
+typedef struct {
+    uint32_t count;  /* rows read or bytes written; 0 where refused */
+    uint32_t number; /* 0 where accepted, else the refusal's number */
+    uint32_t row;    /* the refusal's place, counted from 1; 0 where it has none */
+    uint32_t column;
+} girderbasil_answer;
+
+/* A record or a refusal. */
+typedef struct {
+    uint32_t number; /* 0 where scored, else the refusal's number; then the record is all 0 */
+    uint32_t row;
+    uint32_t column;
+    uint32_t scores[6]; /* in hundredths; ground storey X, ground storey Y, next storey X, ..; unused ones 0 */
+    uint32_t count;     /* how many scores there are: two a storey */
+    uint32_t verdict;   /* 1 to 4 */
+} girderbasil_scoring;
+
+/* Reads a sheet into a lent table, eight numbers a line.
+ *
+ * Accepted: `count` rows were read, and stand in the first 8 * count numbers; later numbers are unchanged.
+ * Refused, with 1, 9 or 2, tested in that order: no number of the table is changed.
+ * A table of 8 * GIRDERBASIL_MOST_ROWS numbers has room for any sheet.
+ */
+girderbasil_answer girderbasil_read(const uint8_t *sheet, size_t sheet_length,
+                                    uint32_t *table, size_t table_length);
+
+/* Scores a table: its record, or a refusal with one of 1, 3, 4, 5, 6, 7, 8. Writes nothing.
+ * The length is in numbers: after reading, 8 times the count of rows.
+ */
+girderbasil_scoring girderbasil_score(const uint32_t *table, size_t table_length);
+
+/* Writes a table's report into lent bytes, a line for each storey and direction and one for the verdict.
+ *
+ * Accepted: `count` bytes were written, at the front; later bytes are unchanged.
+ * Refused, as scoring refuses, or else with 9 where the report is longer than what was lent: no byte is
+ * changed. GIRDERBASIL_MOST_REPORT_BYTES bytes have room for any report.
+ */
+girderbasil_answer girderbasil_write_report(const uint32_t *table, size_t table_length,
+                                            uint8_t *report, size_t report_length);
+
+#ifdef __cplusplus
+}
+#endif
+
+#endif
