@@ -3,18 +3,17 @@ use mathlib.Core.Path.{_≡_, refl, sym, ap, _∙_}
 use mathlib.Core.Bool.{Bool, true, false, cond}
 use mathlib.Core.List.{List}
 use Prim.Native.Nat.{ℕ, _-_, _*_, _<_, _≤_}
-use native.Mathlib.Nat.{le-refl, sub-zero}
+use native.Mathlib.Nat.{le-refl}
 use native.Mathlib.Omega.{arith}
 use lib.Dec.{ltb}
 use lib.ListN.{length, take}
-use lib.Seq.{take-at}
 use borrow.Author.Tests.{eq-eqb, ne-eqb, lt-ltb, le-ltb, eqb-true, eqb-false, ltb-true, ltb-false}
 use Rattle.answer.specs.declared.Answer.{Answer}
 use Rattle.answer.specs.declared.Answer.the-variants.{Count, Refused}
 use Rattle.answer.specs.Told.{Told, told, counted, refusal, accepts, lent-space-short}
 use Rattle.answer.specs.Length.{rowsIn}
 use Rattle.sheet.specs.Sheet.{over, reading, afterReading}
-use Rattle.sheet.proofs.Lists.{over-length}
+use Rattle.sheet.proofs.Lists.{over-length, over-front}
 use Rattle.sheet.proofs.Sheets.{numbers-length}
 use Rattle.sheet.proofs.Answers.{Readable, accepted-readable, readable-accepted, never-short, read-refused, read-accepted}
 use Rattle.survey.specs.Judgement.{judging}
@@ -86,8 +85,8 @@ module _ (sheet table lent : List ℕ) {answer : Answer} (long : length table �
         rw (f, ← both .1, kept) (omega (arith, so-many, readable .1))
 
     table-taken : {filled : List ℕ} → filled ≡ afterReading sheet table → take (8 * rows - 0) filled ≡ tableOf sheet
-    unfolding over tableOf
-    table-taken f = rw (f, ← both .1, so-many, sub-zero) (take-at (tableOf sheet) _ _ (numbers-length _ sheet))
+    unfolding tableOf
+    table-taken f = rw (f, ← both .1, so-many) (over-front table (tableOf sheet) _ (numbers-length _ sheet))
 
     pub diagnose-read : {filled after : List ℕ} {reported : Told} → filled ≡ afterReading sheet table
         → reported ≡ reporting (take (8 * rows - 0) filled) (length lent) → after ≡ afterReporting (take (8 * rows - 0) filled) lent

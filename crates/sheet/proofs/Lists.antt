@@ -2,12 +2,12 @@
 use mathlib.Core.Path.{_≡_, refl, sym, ap, ap₂, _∙_}
 use mathlib.Core.List.{List, [], _∷_, _++_, append-assoc, append-nil}
 use Prim.Native.Nat.{ℕ, zero, suc, _+_, _*_, _-_, _<_, _≤_}
-use native.Mathlib.Nat.{mul-suc, mul-zero, mul-le-mul-left, not-suc-le-zero}
+use native.Mathlib.Nat.{add-zero, add-suc, sub-zero, le-refl, mul-suc, mul-zero, mul-le-mul-left, not-suc-le-zero}
 use native.Mathlib.Numerals.{add-one}
 use native.Mathlib.Decide.{decLt}
 use native.Mathlib.Omega.{arith}
 use lib.ListN.{length, getD, take, drop, set, length-append, length-drop, drop-of-length-le}
-use lib.Seq.{sets, sets-eq, set-split, take-at, drop-at, drop-drop, take-append-le, drop-append-le, take-all, take-add, take-suc, append-snoc}
+use lib.Seq.{sets, sets-eq, set-split, take-at, drop-at, drop-drop, take-append-le, drop-append-le, take-all, take-take, length-take-le, take-add, take-suc, append-snoc}
 use borrow.Rule.Slice.PartMut.{putMid, postOf, post-is}
 use Rattle.answer.proofs.Parts.{lent-part, part-size, part-element}
 use Rattle.sheet.specs.Line.{joined, part}
@@ -42,6 +42,17 @@ module _ (lent x : List ℕ) where
       ∙ sym (append-snoc (take n (over lent x)) v (drop (suc n) (over lent x)))
       ∙ rw (← add-one) (over-part (v ∷ []) n 1 ex refl (omega arith))
 
+-- The front of a list, and one element more of it.
+pub over-more : (lent x l : List ℕ) (at : ℕ) → at < length x → length x ≤ length lent → l ≡ over lent (take at x)
+    → set l at (getD x at 0) ≡ over lent (take (at + 1) x)
+over-more lent x l at inside fits e =
+    rw (e, add-one, take-suc x at 0 inside) (over-set lent (take at x) (getD x at 0) at (length-take-le at x (omega arith)) (omega arith))
+
+-- What is written is the front of the storage, as the code lends it.
+pub over-front : (lent x : List ℕ) (n : ℕ) → length x ≡ n → take (n - 0) (over lent x) ≡ x
+unfolding over
+over-front lent x n e = rw sub-zero (take-at x (drop (length x) lent) n e)
+
 -- Storage that is written whole.
 pub over-whole : (lent x : List ℕ) → length x ≡ length lent → over lent x ≡ x
 unfolding over
@@ -72,6 +83,21 @@ part-append size i l m h =
 pub part-at : (size i : ℕ) (l : List ℕ) (j : ℕ) → j < size → getD (part size i l) j 0 ≡ getD l (size * i + j) 0
 unfolding part
 part-at size i l j h = part-element (size * i) size l j h
+
+-- A part has one part of its own size, itself.
+pub part-again : (size i : ℕ) (l : List ℕ) → part size 0 (part size i l) ≡ part size i l
+unfolding part
+part-again size i l = rw mul-zero (take-take size size (drop (size * i) l) (le-refl size))
+
+pub part-whole : (size : ℕ) (l : List ℕ) → length l ≡ size → part size 0 l ≡ l
+unfolding part
+part-whole size l e = rw mul-zero (take-all size l (omega arith))
+
+-- Joined lists, some and then the others.
+pub joined-add : (f : ℕ → List ℕ) (n m : ℕ) → joined (n + m) f ≡ joined n f ++ joined m (λ i. f (n + i))
+unfolding joined
+joined-add f n zero = rw add-zero (sym (append-nil (joined n f)))
+joined-add f n (suc m) = rw (add-suc, joined-add f n m) (append-assoc (joined n f) (joined m (λ i. f (n + i))) (f (n + m)))
 
 -- Joined lists, each as long as the others.
 module _ (size : ℕ) (f : ℕ → List ℕ) (long : (i : ℕ) → length (f i) ≡ size) where

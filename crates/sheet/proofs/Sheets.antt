@@ -1,31 +1,78 @@
 -- The laws of lines and sheets: a place's judgement, the numbers read and the lines printed one after the other. Assumes nothing.
 use mathlib.Core.Path.{_≡_, refl, sym, ap, _∙_}
-use mathlib.Core.Bool.{not}
-use mathlib.Core.List.{List, [], _∷_}
-use Prim.Native.Nat.{ℕ, _+_, _-_, _*_, _/_, _%_, _<_, _≤_}
-use native.Mathlib.Nat.{one-mul}
+use mathlib.Core.Bool.{not, false}
+use mathlib.Core.List.{List, [], _∷_, _++_}
+use Prim.Native.Nat.{ℕ, zero, suc, _+_, _-_, _*_, _/_, _%_, _<_, _≤_}
+use native.Mathlib.Nat.{one-mul, mul-suc}
 use native.Mathlib.Numerals.{add-one}
+use native.Mathlib.Decide.{decLt}
 use native.Mathlib.Omega.{arith}
 use lib.Dec.{eqb}
 use lib.ListN.{length, getD, set, length-append}
-use borrow.Author.Tests.{eq-eqb, ne-eqb, lt-ltb, le-ltb}
+use borrow.Author.Tests.{ne-eqb, lt-ltb, le-ltb}
 use borrow.Rule.Slice.PartMut.{putMid}
+use Rattle.answer.specs.First.{first}
+use Rattle.answer.proofs.Places.{first-is, before-first, first-most, at-first}
 use Rattle.sheet.specs.Field.{field, isNumber, value, printed}
 use Rattle.sheet.specs.Line.{joined, part, line}
 use Rattle.sheet.specs.Sheet.{fieldAt, misprinted, over, numbersOf, linesOf, afterPrinting}
 use Rattle.sheet.specs.declared.field.Field.{Field}
-use Rattle.sheet.proofs.Lists.{part-at, over-set, over-whole, joined-length, joined-over}
+use Rattle.sheet.proofs.Lists.{part-again, part-whole, over-set, over-whole, joined-add, joined-same, joined-length, joined-over}
 
--- The last byte of a line.
-pub misprinted-end : (sheet : List ℕ) (at : ℕ) → at % 9 ≡ 8 → not (eqb (getD sheet (65 * (at / 9) + 64) 0) 10) ≡ misprinted sheet at
-unfolding misprinted
-misprinted-end sheet at e = rw (eq-eqb (at % 9) 8 e, part-at 65 (at / 9) sheet 64 (omega arith))
+-- A line by itself, as a sheet of one line: its fields and the byte after them.
+module _ (line : List ℕ) (long : length line ≡ 65) (column : ℕ) where
+  only-line : (i : ℕ) → i ≡ 0 → fieldAt line i column ≡ part 8 column line
+  unfolding fieldAt
+  only-line i first = rw (first, part-whole 65 line long)
 
--- A field of a line, by what stands in it.
-pub misprinted-field : (sheet : List ℕ) (at : ℕ) {f g : Field} → (at % 9 ≡ 8 → ⊥) → f ≡ field (fieldAt sheet (at / 9) (at % 9)) → f ≡ g
-    → not (isNumber g) ≡ misprinted sheet at
+  module _ (some : column < 8) {f g : Field} (scanned : f ≡ field (part 8 column line)) (case : f ≡ g) where
+    pub line-field : not (isNumber g) ≡ misprinted line column
+    unfolding misprinted
+    line-field =
+        let at : column % 9 ≡ column = omega arith in
+        rw (ne-eqb (column % 9) 8 (omega arith), at, only-line (column / 9) (omega arith)) (ap (λ (x : Field). not (isNumber x)) (sym case ∙ scanned))
+
+    pub line-number : value g ≡ value (field (fieldAt line (column / 8) (column % 8)))
+    line-number =
+        let at : column % 8 ≡ column = omega arith in
+        rw (at, only-line (column / 8) (omega arith)) (ap value (sym case ∙ scanned))
+
+pub line-last : (line : List ℕ) → length line ≡ 65 → not (eqb (getD line 64 0) 10) ≡ misprinted line 8
 unfolding misprinted
-misprinted-field sheet at {f} {g} e p q = rw (ne-eqb (at % 9) 8 e) (ap (λ (x : Field). not (isNumber x)) (sym q ∙ p))
+line-last line long = rw (part-whole 65 line long)
+
+-- A place of a sheet is one of its line's.
+pub place-of-line : (sheet : List ℕ) (row k : ℕ) → k < 9 → misprinted sheet (9 * row + k) ≡ misprinted (part 65 row sheet) k
+unfolding misprinted fieldAt
+place-of-line sheet row k few =
+    let above : (9 * row + k) / 9 ≡ row = omega arith in
+    let along : (9 * row + k) % 9 ≡ k = omega arith in
+    let only : k / 9 ≡ 0 = omega arith in
+    let same : k % 9 ≡ k = omega arith in
+    rw (above, along, only, same, part-again)
+
+-- No place is misprinted before the one that was found in a line, if none of the lines above has one.
+module _ (sheet : List ℕ) (row : ℕ) (above : (k : ℕ) → k < 9 * row → misprinted sheet k ≡ false)
+    {column : ℕ} (found : column ≡ first (misprinted (part 65 row sheet)) 9) where
+  before : (k : ℕ) → k < 9 * row + column → misprinted sheet k ≡ false
+  before k h = go (decLt k (9 * row))
+    where
+      go : Dec (k < 9 * row) → misprinted sheet k ≡ false
+      go (yes l) = above k l
+      go (no l) =
+          let along : 9 * row + (k - 9 * row) ≡ k = omega arith in
+          let most : column ≤ 9 = rw found (first-most (misprinted (part 65 row sheet)) 9) in
+          rw (← along)
+          (place-of-line sheet row (k - 9 * row) (omega arith)
+          ∙ before-first (misprinted (part 65 row sheet)) 9 (k - 9 * row) (rw (← found) (omega arith)))
+
+  pub first-in-line : (lines : ℕ) → row < lines → column < 9 → 9 * row + column ≡ first (misprinted sheet) (9 * lines)
+  first-in-line lines inside few =
+      let here = at-first (misprinted (part 65 row sheet)) 9 (rw (← found) few) in
+      sym (first-is (misprinted sheet) (9 * lines) (9 * row + column) (omega arith) before (place-of-line sheet row column few ∙ rw found here))
+
+  pub line-right : 9 ≤ column → (k : ℕ) → k < 9 * (row + 1) → misprinted sheet k ≡ false
+  line-right all k h = before k (omega arith)
 
 -- The numbers of a sheet, one after the other.
 pub numbers-length : (n : ℕ) (sheet : List ℕ) → length (numbersOf n sheet) ≡ n
@@ -37,6 +84,33 @@ pub numbers-more : (sheet lent table : List ℕ) (at v : ℕ) → at < length le
 unfolding numbersOf joined
 numbers-more sheet lent table at v h e f =
     ap (λ (t : List ℕ). set t at v) e ∙ over-set lent (numbersOf at sheet) v at (numbers-length at sheet) h ∙ rw (add-one, f)
+
+-- The numbers of a sheet are those of its lines.
+field-of-line : (sheet : List ℕ) (row k : ℕ) → k < 8
+    → fieldAt (part 65 row sheet) (k / 8) (k % 8) ≡ fieldAt sheet ((8 * row + k) / 8) ((8 * row + k) % 8)
+unfolding fieldAt
+field-of-line sheet row k few =
+    let above : (8 * row + k) / 8 ≡ row = omega arith in
+    let along : (8 * row + k) % 8 ≡ k = omega arith in
+    let only : k / 8 ≡ 0 = omega arith in
+    let same : k % 8 ≡ k = omega arith in
+    rw (above, along, only, same, part-again)
+
+pub numbers-by-lines : (sheet : List ℕ) (lines : ℕ) → joined lines (λ i. numbersOf 8 (part 65 i sheet)) ≡ numbersOf (8 * lines) sheet
+unfolding joined numbersOf
+numbers-by-lines sheet zero = refl
+numbers-by-lines sheet (suc n) =
+    rw (numbers-by-lines sheet n, mul-suc, joined-add)
+    (ap (λ (l : List ℕ). joined (8 * n) number ++ l) (joined-same (λ i. of-line i) (λ i. number (8 * n + i)) 8 one))
+  where
+    number : ℕ → List ℕ
+    number place = value (field (fieldAt sheet (place / 8) (place % 8))) ∷ []
+
+    of-line : ℕ → List ℕ
+    of-line place = value (field (fieldAt (part 65 n sheet) (place / 8) (place % 8))) ∷ []
+
+    one : (i : ℕ) → i < 8 → of-line i ≡ number (8 * n + i)
+    one i few = ap (λ (l : List ℕ). value (field l) ∷ []) (field-of-line sheet n i few)
 
 -- A line's fields, and the byte after them.
 abbrev pub fields : List ℕ → ℕ → List ℕ

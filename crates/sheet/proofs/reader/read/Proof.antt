@@ -4,7 +4,7 @@ use lib.ListN.{length}
 use denote.Ref.{now}
 use native.Mathlib.Omega.{arith}
 use Rattle.answer.proofs.Lengths.{rows-whole, Whole}
-use Rattle.sheet.proofs.Answers.{reading-length, reading-short, reading-misprint, reading-accepted}
+use Rattle.sheet.proofs.Answers.{reading-length, reading-short}
 use borrow.Author.Needs.{needs}
 use Rattle.sheet.proofs.reader.read.Statement.{statement}
 use Rattle.sheet.proofs.reader.read.Tie as tie
@@ -35,40 +35,17 @@ returns-2 c =
     let case = reading-short _ _ (at-if1 .before .rows-in .ensures) (at-if1 .if1 .left) (c .before .if2 .taken) in
     (c .refused2 .ensures ∙ case .0, case .1)
 
-first-misprint-requires : tie.Need-first-misprint-requires
-first-misprint-requires c κs = omega (arith, whole (c .before))
+slice-aggregate-read-by : tie.Need-slice-aggregate-read-by
+slice-aggregate-read-by c = search needs
 
-mul-if3 : tie.Need-mul-if3
-mul-if3 c = search needs
-
-refused-at-requires : tie.Need-refused-at-requires
-refused-at-requires c κs = omega (arith, whole (c .before .before .before))
-
-returns-3 : tie.Need-returns-3
-returns-3 c =
-    let at-search = c .before .before in
-    let at-if2 = at-search .before in
-    let at-if1 = at-if2 .before in
-    let case = reading-misprint _ _ (at-if1 .before .rows-in .ensures) (at-if1 .if1 .left) (at-if2 .if2 .left) (at-search .first-misprint .ensures) (c .before .if3 .taken) in
-    (c .refused-at .ensures ∙ case .0, case .1)
-
-fill-requires : tie.Need-fill-requires
-fill-requires c κs = (omega (arith, whole (c .before .before .before .before)), c .before .before .before .if2 .left)
-
-cast-t11 : tie.Need-cast-t11
-cast-t11 c = omega (arith, whole (c .before .before .before .before .before .before .before))
+read-by-requires : tie.Need-read-by-requires
+read-by-requires c κs = search needs
 
 same-length : tie.Need-same-length
 same-length c = search needs
 
-returns-4 : tie.Need-returns-4
-returns-4 c =
-    let at-if3 = c .before .before .before .before in
-    let at-search = at-if3 .before in
-    let at-if2 = at-search .before in
-    let at-if1 = at-if2 .before in
-    let case = reading-accepted _ _ (at-if1 .before .rows-in .ensures) (at-if1 .if1 .left) (at-if2 .if2 .left) (at-search .first-misprint .ensures) (at-if3 .if3 .left) in
-    (case .0, c .before .before .fill .ensures ∙ case .1)
+returns-3 : tie.Need-returns-3
+returns-3 c = search needs
 
 pub read-spec : {M : Type 1} → statement M
 read-spec =
@@ -80,11 +57,7 @@ read-spec =
     mul-if2
     refused-requires-2
     returns-2
-    first-misprint-requires
-    mul-if3
-    refused-at-requires
-    returns-3
-    fill-requires
-    cast-t11
+    slice-aggregate-read-by
+    read-by-requires
     same-length
-    returns-4)
+    returns-3)
