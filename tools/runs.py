@@ -48,5 +48,6 @@ def main(crate, made, arguments):
     for name, content in made.items():
         with open(os.path.join(root, name), "wb") as f:
             f.write(content)
-    print(len(made) - 2, "sheets,", len(made["stdout"]), "bytes of output")
+    sheets = sum(os.path.dirname(name) == "data" for name in made)
+    print(sheets, "sheets,", len(made["stdout"]), "bytes of output")
     return 0

@@ -1,0 +1,87 @@
+// Runs the houses whose sheets its arguments name. Under each name stands the report, or the refusal's
+// line; and then what is answered with just as many bytes lent as the report has, with one byte fewer,
+// and with none: number, row, column, count. HOUSES.md beside src/ says what each house is for. What is
+// printed is tested, against the file stdout.
+//
+// Uses `answer`, `sheet`, `diagnosis` and the kit's `io`, `libc` and `os`.
+use answer::Answer;
+use libc::STDOUT_FILENO;
+
+// Seven lines, which no report exceeds.
+const REPORT: usize = 455;
+
+// Prints a sheet's report, or the refusal's line, and answers the count of the report's bytes.
+fn print_diagnosis(sheet: &[u8]) -> usize {
+    let mut report = [0u8; REPORT];
+    match diagnosis::diagnose(sheet, &mut report) {
+        Answer::Count(count) => {
+            let length = io::count(count as isize, &report);
+            io::write_all(STDOUT_FILENO, &report[..length]);
+            length
+        }
+        Answer::Refused {
+            number,
+            row,
+            column,
+        } => {
+            io::write_all(STDOUT_FILENO, &diagnosis::refusal_line(number, row, column));
+            0
+        }
+    }
+}
+
+fn print_row(row: [u32; 8]) {
+    io::write_all(STDOUT_FILENO, &sheet::print_line(row));
+}
+
+// Prints what is answered for a sheet with so many bytes lent.
+fn lend(sheet: &[u8], room: usize) {
+    if REPORT < room {
+        return;
+    }
+    let mut report = [0u8; REPORT];
+    match diagnosis::diagnose(sheet, &mut report[0..room]) {
+        Answer::Refused {
+            number,
+            row,
+            column,
+        } => print_row([number, row, column, 0, 0, 0, 0, 0]),
+        Answer::Count(count) => print_row([0, 0, 0, count, 0, 0, 0, 0]),
+    }
+}
+
+fn run_sheet(sheet: &[u8]) {
+    let count = print_diagnosis(sheet);
+    if 0 < count {
+        lend(sheet, count);
+        lend(sheet, count - 1);
+    }
+    lend(sheet, 0);
+}
+
+// Runs the file that an argument names. A file longer than the buffer is cut there, at a length that is
+// still refused.
+fn run(argument: usize) {
+    let mut path = io::buffer();
+    let length = os::arg(argument, &mut path);
+    io::write_all(STDOUT_FILENO, &path[..length]);
+    io::write_all(STDOUT_FILENO, b"\n");
+    let file = os::open_read(&path[..length]);
+    if file < 0 {
+        os::fail(&path[..length]);
+        return;
+    }
+    let mut sheet = io::large_buffer();
+    let count = io::read_full(file, &mut sheet);
+    libc::close(file);
+    run_sheet(&sheet[..count]);
+}
+
+fn main() {
+    let count = os::arg_count();
+    let mut i = 1;
+    while i < count {
+        run(i);
+        i += 1;
+    }
+}
