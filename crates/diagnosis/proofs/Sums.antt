@@ -1,14 +1,13 @@
 -- What a storey's walls hold, wall by wall: with one wall more, and at most. Assumes nothing.
 use mathlib.Core.Path.{_≡_, refl, ap, _∙_}
 use mathlib.Core.Bool.{Bool, true, false, cond}
-use mathlib.Core.List.{List, [], _∷_, append-nil}
+use mathlib.Core.List.{List, [], _∷_, _++_, append-nil}
 use Prim.Native.Nat.{ℕ, zero, suc, _+_, _/_, _<_, _≤_}
 use native.Mathlib.Nat.{add-zero, le-refl}
 use native.Mathlib.Numerals.{add-one}
 use native.Mathlib.Omega.{arith}
 use lib.ListN.{length, length-append}
 use lib.Dec.{lit≤}
-use borrow.Author.Tests.{eq-eqb, ne-eqb}
 use Rattle.survey.specs.Table.{cell, storeys}
 use Rattle.survey.specs.Judgement.{judging}
 use Rattle.survey.specs.Walls.{rowsFrom, storeyWalls}
@@ -18,7 +17,12 @@ use Rattle.method.specs.Held.{heldStrength, mostHeld}
 use Rattle.method.proofs.Tables.{AllAtMost, all-append}
 use Rattle.method.proofs.Shares.{mostShare, share-most, held-append, held-most}
 use Rattle.diagnosis.specs.declared.strengths.Held.{Held}
-use Rattle.diagnosis.specs.House.{foundation, endA, endB, place, share, sharesWhere, heldWhere, inDirection, solidAtEnd, held, endHeld, heldBy}
+use Rattle.diagnosis.specs.House.{foundation, endA, endB, share, sharesWhere, heldWhere, inDirection, solidAtEnd, held, endHeld, heldBy, storeyHeld}
+
+-- What a wall adds to a sum is at most what it counts.
+pub added-most : (takes : Bool) {counted most : ℕ} → counted ≤ most → cond takes counted 0 ≤ most
+added-most true small = small
+added-most false small = omega arith
 
 module _ (table : List ℕ) (storey : ℕ) (walls : List ℕ) where
   abbrev counts : ℕ → ℕ
@@ -32,13 +36,16 @@ module _ (table : List ℕ) (storey : ℕ) (walls : List ℕ) where
   unfolding heldWhere sharesWhere heldStrength
   none test = refl
 
-  taken : (test : ℕ → Bool) (n : ℕ) → test n ≡ true → sum test (n + 1) ≡ sum test n + counts n
+  one-more : (test : ℕ → Bool) (n : ℕ) → sum test (n + 1) ≡ sum test n + cond (test n) (counts n) 0
   unfolding heldWhere sharesWhere heldStrength
-  taken test n e = rw (add-one, e, held-append, add-zero)
+  one-more test n = rw add-one (go (test n))
+    where
+      before : List ℕ
+      before = sharesWhere test counts n
 
-  left : (test : ℕ → Bool) (n : ℕ) → test n ≡ false → sum test (n + 1) ≡ sum test n
-  unfolding heldWhere sharesWhere
-  left test n e = rw (add-one, e, append-nil)
+      go : (b : Bool) → heldStrength (before ++ cond b (counts n ∷ []) []) ≡ heldStrength before + cond b (counts n) 0
+      go true = rw (held-append, add-zero)
+      go false = rw (append-nil, add-zero)
 
   -- A wall of at most 20 m counts at most so much, and so do those of the first walls that a test takes.
   pub share-at-most : (row : ℕ) → cell walls row 5 ≤ 20000 → counts row ≤ mostShare
@@ -76,55 +83,11 @@ module _ (table : List ℕ) (storey : ℕ) (walls : List ℕ) where
     pub no-walls : record { all = 0; a = 0; b = 0 } ≡ heldBy table storey walls direction 0
     no-walls = rw (none along, none (solid-at endA), none (solid-at endB))
 
-    -- The sums that the loop keeps, with one wall more. What the tests say of it goes by its direction, its type and its place.
-    module _ (row : ℕ) {sums : Held} (so-far : sums ≡ heldBy table storey walls direction row) where
-      abbrev Next : ℕ → ℕ → ℕ → Type 0
-      Next all a b = record { all = all; a = a; b = b } ≡ heldBy table storey walls direction (row + 1)
-
-      pub other-direction : (cell walls row 2 ≡ direction → ⊥) → sums ≡ heldBy table storey walls direction (row + 1)
-      unfolding inDirection solidAtEnd
-      other-direction other =
-          let elsewhere = ne-eqb (cell walls row 2) direction other in
-          rw (left along row elsewhere, left (solid-at endA) row (rw elsewhere), left (solid-at endB) row (rw elsewhere)) so-far
-
-      module _ {counted : ℕ} (e : counted ≡ counts row) (same : cell walls row 2 ≡ direction) where
-        in-direction : along row ≡ true
-        unfolding inDirection
-        in-direction = eq-eqb (cell walls row 2) direction same
-
-        not-solid : (end : ℕ) → (cell walls row 7 ≡ 1 → ⊥) → solid-at end row ≡ false
-        unfolding solidAtEnd
-        not-solid end hollow = rw (in-direction, ne-eqb (cell walls row 7) 1 hollow)
-
-        pub opening : (cell walls row 7 ≡ 1 → ⊥) → Next (sums .all + counted) (sums .a) (sums .b)
-        opening hollow =
-            rw (
-              so-far,
-              e,
-              taken along row in-direction,
-              left (solid-at endA) row (not-solid endA hollow),
-              left (solid-at endB) row (not-solid endB hollow),
-            )
-
-        module _ (solid : cell walls row 7 ≡ 1) where
-          elsewhere : (end : ℕ) → (cell walls row 3 ≡ place end → ⊥) → sum (solid-at end) (row + 1) ≡ sum (solid-at end) row
-          unfolding solidAtEnd
-          elsewhere end not-here =
-              left (solid-at end) row (rw (in-direction, eq-eqb (cell walls row 7) 1 solid, ne-eqb (cell walls row 3) (place end) not-here))
-
-          stands : (end : ℕ) → cell walls row 3 ≡ place end → sum (solid-at end) (row + 1) ≡ sum (solid-at end) row + counts row
-          unfolding solidAtEnd
-          stands end here =
-              taken (solid-at end) row (rw (in-direction, eq-eqb (cell walls row 7) 1 solid, eq-eqb (cell walls row 3) (place end) here))
-
-          pub at-a : cell walls row 3 ≡ 1 → Next (sums .all + counted) (sums .a + counted) (sums .b)
-          at-a here = rw (so-far, e, taken along row in-direction, stands endA here, elsewhere endB (λ b. omega arith))
-
-          pub at-b : cell walls row 3 ≡ 3 → Next (sums .all + counted) (sums .a) (sums .b + counted)
-          at-b here = rw (so-far, e, taken along row in-direction, elsewhere endA (λ a. omega arith), stands endB here)
-
-          pub in-middle : (cell walls row 3 ≡ 1 → ⊥) → (cell walls row 3 ≡ 3 → ⊥) → Next (sums .all + counted) (sums .a) (sums .b)
-          in-middle not-a not-b = rw (so-far, e, taken along row in-direction, elsewhere endA not-a, elsewhere endB not-b)
+    -- The sums that the loop keeps, with one wall more.
+    pub wall-more : (row : ℕ) {sums : Held} {all a b : ℕ} → sums ≡ heldBy table storey walls direction row
+        → all ≡ cond (along row) (counts row) 0 → a ≡ cond (solid-at endA row) (counts row) 0 → b ≡ cond (solid-at endB row) (counts row) 0
+        → record { all = sums .all + all; a = sums .a + a; b = sums .b + b } ≡ heldBy table storey walls direction (row + 1)
+    wall-more row so-far e f g = rw (so-far, e, f, g, one-more along row, one-more (solid-at endA) row, one-more (solid-at endB) row)
 
 -- Of an accepted table, a storey's part is at most 300 walls, each of at most 20 m.
 module _ (table : List ℕ) (h : judging table .number ≡ 0) (storey : ℕ) {walls : List ℕ} (e : walls ≡ storeyWalls table storey) where
@@ -167,17 +130,7 @@ module _ (table : List ℕ) (h : judging table .number ≡ 0) (storey direction 
   end-held-most end = held-within table h storey refl _ _ (le-refl _)
 
 -- The sums over all walls of a storey are what it holds.
-module _ (table : List ℕ) (storey : ℕ) {walls : List ℕ} (direction : ℕ) {sums : Held}
-    (summed : sums ≡ heldBy table storey walls direction (length walls / 8)) (e : walls ≡ storeyWalls table storey)
-  where
-    pub sums-all : sums .all ≡ held table storey direction
-    unfolding held
-    sums-all = rw (summed, e)
-
-    pub sums-a : sums .a ≡ endHeld table storey direction endA
-    unfolding endHeld
-    sums-a = rw (summed, e)
-
-    pub sums-b : sums .b ≡ endHeld table storey direction endB
-    unfolding endHeld
-    sums-b = rw (summed, e)
+pub sums-whole : (table : List ℕ) (storey : ℕ) {walls : List ℕ} (direction : ℕ) {sums : Held}
+    → sums ≡ heldBy table storey walls direction (length walls / 8) → walls ≡ storeyWalls table storey → sums ≡ storeyHeld table storey direction
+unfolding held endHeld
+sums-whole table storey direction summed e = rw (summed, e)

@@ -195,6 +195,14 @@ heldBy table storey walls direction n = record {
   b = heldWhere (solidAtEnd walls direction endB) table storey walls n;
 }
 
+-- What a storey holds in a direction, whole and at each end.
+abbrev pub storeyHeld : List ℕ → ℕ → ℕ → Held
+storeyHeld table storey direction = record {
+  all = held table storey direction;
+  a = endHeld table storey direction endA;
+  b = endHeld table storey direction endB;
+}
+
 -- What is worked out for a storey and direction.
 abbrev pub assessment : List ℕ → ℕ → ℕ → Assessment
 assessment table storey direction = record {

@@ -9,6 +9,7 @@ use crate::numbers::PRESENT;
 use crate::numbers::STOREYS;
 use crate::numbers::VOID;
 use crate::numbers::cell;
+use crate::strengths::Held;
 use crate::strengths::held_by;
 use crate::strengths::required_of;
 use answer::ROW;
@@ -23,8 +24,7 @@ ghost use mathlib.Core.Path.{_≡_};
 ghost use Prim.Native.Nat.{_≤_};
 ghost use Rattle.survey.specs.Table.{storeys};
 ghost use Rattle.survey.specs.Judgement.{judging};
-ghost use Rattle.survey.specs.Walls.{storeyWalls};
-ghost use Rattle.diagnosis.specs.House.{endHeld, required, endBand, storeyFloorType, deterioration, assessment};
+ghost use Rattle.diagnosis.specs.House.{endHeld, storeyHeld, required, endBand, storeyFloorType, deterioration, assessment};
 
 // Held strength in 0.000001 kN, required strength in 0.000000001 kN, layout factor in hundredths, score.
 pub struct Assessment {
@@ -91,22 +91,21 @@ pub(crate) fn deterioration(table: &[u32]) -> Fraction
     )
 }
 
-// One direction of a storey. `walls` are the storey's, and `factor` is the house's deterioration factor.
+// One direction of a storey, which holds so much. `factor` is the house's deterioration factor.
 fn assess(
     table: &[u32],
-    walls: &[u32],
+    sums: Held,
     factor: Fraction,
     storey: usize,
     direction: usize,
 ) -> Assessment
     requires { ⌜ judging (now table) .number ≡ 0 ⌝ }
-    requires { ⌜ now walls ≡ storeyWalls (now table) storey ⌝ }
+    requires { ⌜ sums ≡ storeyHeld (now table) storey direction ⌝ }
     requires { ⌜ factor ≡ deterioration (now table) ⌝ }
     requires { ⌜ (1 ≤ storey) × (storey ≤ storeys (now table)) ⌝ }
     requires { ⌜ (1 ≤ direction) × (direction ≤ 2) ⌝ }
     ensures { λ r. ⌜ r ≡ assessment (now (table .entry)) storey direction ⌝ }
 {
-    let sums = held_by(table, storey as u32, walls, direction as u32);
     let held = sums.all;
     let required = storey_required(table, storey);
     let a = end_band(table, storey, direction, 0, sums.a);
@@ -130,7 +129,8 @@ pub(crate) fn assess_storey(table: &[u32], factor: Fraction, storey: usize) -> D
     ensures { λ r. ⌜ r .y ≡ assessment (now (table .entry)) storey 2 ⌝ }
 {
     let walls = storey_run(table, storey as u32);
-    let x = assess(table, walls, factor, storey, 1);
-    let y = assess(table, walls, factor, storey, 2);
+    let sums = held_by(table, storey as u32, walls);
+    let x = assess(table, sums.x, factor, storey, 1);
+    let y = assess(table, sums.y, factor, storey, 2);
     Directions { x, y }
 }

@@ -17,26 +17,29 @@ use method::narrow_factor;
 use method::required_strength;
 use method::wall_share;
 ghost use mathlib.Core.Path.{_≡_};
+ghost use mathlib.Core.Bool.{cond};
 ghost use Prim.Native.Nat.{_≤_, _+_, _*_, _/_};
 ghost use lib.ListN.{length};
 ghost use Rattle.method.specs.Held.{mostHeld};
 ghost use Rattle.survey.specs.Table.{cell, storeys};
 ghost use Rattle.survey.specs.Judgement.{judging};
 ghost use Rattle.survey.specs.Walls.{storeyWalls};
-ghost use Rattle.diagnosis.specs.House.{share, heldBy, requiredOf};
+ghost use Rattle.diagnosis.specs.House.{share, inDirection, solidAtEnd, heldBy, storeyHeld, requiredOf};
 
-// The type of a solid wall, and the places of the walls at ends a and b.
+// The type of a solid wall.
 const SOLID: u32 = 1;
 
-const END_A: u32 = 1;
-
-const END_B: u32 = 3;
-
-// What walls of a storey and direction hold: all of them, and the solid ones at ends a and b.
+// What walls of a storey hold in a direction: all of them, and the solid ones at ends a and b.
 pub struct Held {
     pub all: u64,
     pub a: u64,
     pub b: u64,
+}
+
+// What a storey holds in directions X and Y.
+pub struct StoreyHeld {
+    pub x: Held,
+    pub y: Held,
 }
 
 // What a wall counts, by its row among its storey's walls.
@@ -56,56 +59,85 @@ fn share(table: &[u32], storey: u32, walls: &[u32], row: usize) -> u64
     )
 }
 
-// The sums with one wall more. Openings count towards the whole alone.
+// Whether a wall stands in a direction.
+fn in_direction(walls: &[u32], direction: u32, row: usize) -> bool
+    requires { ⌜ 8 * row + 8 ≤ length (now walls) ⌝ }
+    ensures { λ r. ⌜ r ≡ inDirection (now (walls .entry)) direction row ⌝ }
+{
+    cell(walls, row, DIRECTION) == direction
+}
+
+// Whether a wall is solid and stands in a direction at an end, 0 for end a and 1 for end b. Its numbers
+// are read before they are tested, so that the tests need no jumps: walls come in no order, and a jump
+// would often be guessed wrong.
+fn solid_at_end(walls: &[u32], direction: u32, end: u32, row: usize) -> bool
+    requires { ⌜ 8 * row + 8 ≤ length (now walls) ⌝ }
+    requires { ⌜ end ≤ 1 ⌝ }
+    ensures { λ r. ⌜ r ≡ solidAtEnd (now (walls .entry)) direction end row ⌝ }
+{
+    let stands_in = cell(walls, row, DIRECTION);
+    let walltype = cell(walls, row, WALL_TYPE);
+    let place = cell(walls, row, PLACE);
+    if stands_in != direction {
+        return false;
+    }
+    if walltype != SOLID {
+        return false;
+    }
+    place == 2 * end + 1
+}
+
+// What a wall adds to a sum that takes it or leaves it.
+fn added(takes: bool, counted: u64) -> u64
+    ensures { λ r. ⌜ r ≡ cond takes counted 0 ⌝ }
+{
+    if takes {
+        return counted;
+    }
+    0
+}
+
+// The sums of a direction with one wall more, which counts so much. Openings count towards the whole alone.
 fn with_wall(
     table: &[u32],
     storey: u32,
     walls: &[u32],
     direction: u32,
     row: usize,
+    counted: u64,
     sums: Held,
 ) -> Held
-    requires { ⌜ 8 ≤ length (now table) ⌝ }
     requires { ⌜ (8 * row + 8 ≤ length (now walls)) × (cell (now walls) row 5 ≤ 20000) ⌝ }
+    requires { ⌜ counted ≡ share (now table) storey (now walls) row ⌝ }
     requires { ⌜ (sums .all ≤ mostHeld) × (sums .a ≤ mostHeld) × (sums .b ≤ mostHeld) ⌝ }
     requires { ⌜ sums ≡ heldBy (now table) storey (now walls) direction row ⌝ }
     ensures { λ r. ⌜ r ≡ heldBy (now (table .entry)) storey (now (walls .entry)) direction (row + 1) ⌝ }
 {
-    if cell(walls, row, DIRECTION) != direction {
-        return sums;
+    Held {
+        all: sums.all + added(in_direction(walls, direction, row), counted),
+        a: sums.a + added(solid_at_end(walls, direction, 0, row), counted),
+        b: sums.b + added(solid_at_end(walls, direction, 1, row), counted),
     }
-    let counted = share(table, storey, walls, row);
-    let mut next = sums;
-    next.all = sums.all + counted;
-    if cell(walls, row, WALL_TYPE) != SOLID {
-        return next;
-    }
-    let place = cell(walls, row, PLACE);
-    if place == END_A {
-        next.a = sums.a + counted;
-        return next;
-    }
-    if place == END_B {
-        next.b = sums.b + counted;
-        return next;
-    }
-    next
 }
 
-// What the walls of a storey hold in a direction.
-pub(crate) fn held_by(table: &[u32], storey: u32, walls: &[u32], direction: u32) -> Held
+// What the walls of a storey hold.
+pub(crate) fn held_by(table: &[u32], storey: u32, walls: &[u32]) -> StoreyHeld
     requires { ⌜ judging (now table) .number ≡ 0 ⌝ }
     requires { ⌜ now walls ≡ storeyWalls (now table) storey ⌝ }
-    ensures { λ r. ⌜ r ≡ heldBy (now (table .entry)) storey (now (walls .entry)) direction (length (now (walls .entry)) / 8) ⌝ }
+    ensures { λ r. ⌜ r .x ≡ storeyHeld (now (table .entry)) storey 1 ⌝ }
+    ensures { λ r. ⌜ r .y ≡ storeyHeld (now (table .entry)) storey 2 ⌝ }
 {
     let rows = walls.len() / ROW;
-    let mut sums = Held { all: 0, a: 0, b: 0 };
+    let mut x = Held { all: 0, a: 0, b: 0 };
+    let mut y = Held { all: 0, a: 0, b: 0 };
     let mut row = 0;
     while row < rows {
-        sums = with_wall(table, storey, walls, direction, row, sums);
+        let counted = share(table, storey, walls, row);
+        x = with_wall(table, storey, walls, 1, row, counted, x);
+        y = with_wall(table, storey, walls, 2, row, counted, y);
         row += 1;
     }
-    sums
+    StoreyHeld { x, y }
 }
 
 // What is required of a storey or of an end of it, by the storeys of its part of the house and its area.

@@ -1,40 +1,28 @@
 -- `diagnosis::assessment::assess` meets its contract. Assumes nothing.
-use mathlib.Core.Path.{_≡_}
+use mathlib.Core.Path.{_≡_, ap}
 use native.Mathlib.Omega.{arith}
 use denote.Ref.{now}
 use borrow.Author.Needs.{needs}
+use Rattle.diagnosis.specs.declared.strengths.Held.{Held}
 use Rattle.diagnosis.specs.House.{layout}
-use Rattle.diagnosis.proofs.Sums.{sums-all, sums-a, sums-b}
-use Rattle.diagnosis.proofs.Standing.{storeys-few}
 use Rattle.diagnosis.proofs.Within.{score-is}
 use Rattle.diagnosis.proofs.assessment.assess.Statement.{statement}
 use Rattle.diagnosis.proofs.assessment.assess.Tie as tie
-
-cast-held-by : tie.Need-cast-held-by
-cast-held-by c = omega (arith, storeys-few _ (c .before .before .pre .0))
-
-cast-held-by-2 : tie.Need-cast-held-by-2
-cast-held-by-2 c = search needs
-
-held-by-requires : tie.Need-held-by-requires
-held-by-requires c κs = search needs
 
 storey-required-requires : tie.Need-storey-required-requires
 storey-required-requires c κs = search needs
 
 end-band-requires : tie.Need-end-band-requires
 end-band-requires c κs =
-    let at-held = c .before in
-    let start = at-held .before .before .before in
+    let start = c .before .before in
     let stands = start .pre .1 .1 .1 in
-    (start .pre .0, (stands .0, ((stands .1 .0, stands .1 .1, omega arith), sums-a _ _ _ (at-held .held-by .ensures) (start .pre .1 .0))))
+    (start .pre .0, (stands .0, ((stands .1 .0, stands .1 .1, omega arith), ap (λ (h : Held). h .a) (start .pre .1 .0))))
 
 end-band-requires-2 : tie.Need-end-band-requires-2
 end-band-requires-2 c κs =
-    let at-held = c .before .before in
-    let start = at-held .before .before .before in
+    let start = c .before .before .before in
     let stands = start .pre .1 .1 .1 in
-    (start .pre .0, (stands .0, ((stands .1 .0, stands .1 .1, omega arith), sums-b _ _ _ (at-held .held-by .ensures) (start .pre .1 .0))))
+    (start .pre .0, (stands .0, ((stands .1 .0, stands .1 .1, omega arith), ap (λ (h : Held). h .b) (start .pre .1 .0))))
 
 storey-floor-type-requires : tie.Need-storey-floor-type-requires
 storey-floor-type-requires c κs = search needs
@@ -45,7 +33,7 @@ layout-factor-requires c κs = search needs
 score-requires : tie.Need-score-requires
 score-requires c κs = search needs
 
-laid-out : (c : tie.After-layout-factor) → c .layout-factor .result ≡ layout (now (c .before .before .before .before .before .before .before .before .args .table)) (c .before .before .before .before .before .before .before .before .args .storey) (c .before .before .before .before .before .before .before .before .args .direction)
+laid-out : (c : tie.After-layout-factor) → c .layout-factor .result ≡ layout (now (c .before .before .before .before .before .before .args .table)) (c .before .before .before .before .before .before .args .storey) (c .before .before .before .before .before .before .args .direction)
 unfolding layout
 laid-out c =
     let at-other = c .before .before in
@@ -54,12 +42,11 @@ laid-out c =
 returns : tie.Need-returns
 returns c =
     let at-required = c .before .before .before .before .before in
-    let at-held = at-required .before in
-    let start = at-held .before .before .before in
+    let start = at-required .before .before in
     let stands = start .pre .1 .1 .1 in
     rw (
       c .score .ensures,
-      sums-all _ _ _ (at-held .held-by .ensures) (start .pre .1 .0),
+      start .pre .1 .0,
       at-required .storey-required .ensures,
       laid-out (c .before),
       start .pre .1 .1 .0,
@@ -70,9 +57,6 @@ pub assess-spec : {M : Type 1} → statement M
 assess-spec =
     tie.close
     (tie.spec
-    cast-held-by
-    cast-held-by-2
-    held-by-requires
     storey-required-requires
     end-band-requires
     end-band-requires-2

@@ -6,28 +6,42 @@ use denote.Ref.{now}
 use lib.ListN.{length}
 use borrow.Author.Needs.{needs}
 use Rattle.diagnosis.specs.House.{heldBy}
-use Rattle.diagnosis.proofs.Sums.{no-walls, walls-short, sums-within}
+use Rattle.diagnosis.proofs.Sums.{no-walls, walls-short, sums-within, sums-whole}
 use Rattle.diagnosis.proofs.Standing.{house-inside}
 use Rattle.diagnosis.proofs.strengths.held_by.Statement.{statement}
 use Rattle.diagnosis.proofs.strengths.held_by.Tie as tie
 
 abbrev Inv-loop : tie.InvT-loop
-Inv-loop table storey walls direction rows sums₀ row₀ sums row = (row ≤ rows) × (sums ≡ heldBy table storey walls direction row)
+Inv-loop table storey walls rows x₀ y₀ row₀ x y row = (row ≤ rows) × (x ≡ heldBy table storey walls 1 row) × (y ≡ heldBy table storey walls 2 row)
 
 abbrev μ-loop : tie.MeasureT-loop
-μ-loop table storey walls direction rows sums₀ row₀ sums row = rows - row
+μ-loop table storey walls rows x₀ y₀ row₀ x y row = rows - row
 
 loop-holds : tie.Need-loop-holds Inv-loop μ-loop
-loop-holds c = (search needs, no-walls _ _ _ _)
+loop-holds c = (search needs, no-walls _ _ _ _, no-walls _ _ _ _)
+
+share-requires : tie.Need-share-requires Inv-loop μ-loop
+share-requires c κs =
+    let start = c .before .before .before .before in
+    (house-inside _ (start .pre .0), omega arith)
 
 with-wall-requires : tie.Need-with-wall-requires Inv-loop μ-loop
 with-wall-requires c κs =
-    let at-loop = c .before in
+    let at-loop = c .before .before in
     let start = at-loop .before .before .before in
     let n = at-loop .loop .row in
     let short = walls-short _ (start .pre .0) (start .args .storey) (start .pre .1) n (omega arith) in
-    let small = sums-within _ (start .pre .0) (start .args .storey) (start .pre .1) (start .args .direction) n (omega arith) (at-loop .loop .inv .1) in
-    (house-inside _ (start .pre .0), ((omega arith, short), (small, at-loop .loop .inv .1)))
+    let small = sums-within _ (start .pre .0) (start .args .storey) (start .pre .1) 1 n (omega arith) (at-loop .loop .inv .1) in
+    ((omega arith, short), (c .share .ensures, (small, at-loop .loop .inv .1)))
+
+with-wall-requires-2 : tie.Need-with-wall-requires-2 Inv-loop μ-loop
+with-wall-requires-2 c κs =
+    let at-loop = c .before .before .before in
+    let start = at-loop .before .before .before in
+    let n = at-loop .loop .row in
+    let short = walls-short _ (start .pre .0) (start .args .storey) (start .pre .1) n (omega arith) in
+    let small = sums-within _ (start .pre .0) (start .args .storey) (start .pre .1) 2 n (omega arith) (at-loop .loop .inv .2) in
+    ((omega arith, short), (c .before .share .ensures, (small, at-loop .loop .inv .2)))
 
 add-row : tie.Need-add-row Inv-loop μ-loop
 add-row c = search needs
@@ -36,14 +50,29 @@ loop-less : tie.Need-loop-less Inv-loop μ-loop
 loop-less c = search needs
 
 loop-again : tie.Need-loop-again Inv-loop μ-loop
-loop-again c = (search needs, c .with-wall .ensures)
+loop-again c = (search needs, c .before .with-wall .ensures, c .with-wall2 .ensures)
 
 returns : tie.Need-returns Inv-loop μ-loop
 returns c =
-    let all : c .before .loop .row ≡ length (now (c .before .before .before .before .args .walls)) / 8 = omega arith in
-    c .before .loop .inv .1 ∙ ap (heldBy _ _ _ _) all
+    let at-loop = c .before in
+    let start = at-loop .before .before .before in
+    let walls = now (start .args .walls) in
+    let all : at-loop .loop .row ≡ length walls / 8 = omega arith in (
+      sums-whole _ _ 1 (at-loop .loop .inv .1 ∙ ap (heldBy _ _ walls 1) all) (start .pre .1),
+      sums-whole _ _ 2 (at-loop .loop .inv .2 ∙ ap (heldBy _ _ walls 2) all) (start .pre .1),
+    )
 
 pub held-by-spec : {M : Type 1} → statement M
 held-by-spec =
     tie.close
-    (tie.spec Inv-loop μ-loop loop-holds with-wall-requires add-row loop-less loop-again returns)
+    (tie.spec
+    Inv-loop
+    μ-loop
+    loop-holds
+    share-requires
+    with-wall-requires
+    with-wall-requires-2
+    add-row
+    loop-less
+    loop-again
+    returns)
