@@ -1,0 +1,23 @@
+//! The Rust side of Girderbasil.
+//!
+//! [`library`] calls the proved library through its C boundary. [`model`] is document 01 written down a second
+//! time, in plain Rust and from the paper alone; the tests compare the two, and the benchmark times them.
+
+pub mod answers;
+pub mod library;
+pub mod model;
+pub mod random;
+pub mod worked;
+
+/// The bytes of a sheet's line: eight fields, then a line feed.
+pub const LINE: usize = 65;
+/// The characters of a field.
+pub const FIELD: usize = 8;
+/// The numbers of a table's row.
+pub const ROW: usize = 8;
+/// The most lines of a sheet, and rows of a table.
+pub const MOST_ROWS: usize = 311;
+/// The most walls of a house.
+pub const MOST_WALLS: usize = 300;
+/// The bytes of the longest report: two lines for each of three storeys, and the verdict's.
+pub const MOST_REPORT_BYTES: usize = 7 * LINE;

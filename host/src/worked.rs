@@ -1,0 +1,98 @@
+//! Houses worked through in the papers: document 01's P1 and P10, and the manual's.
+
+/// P1's table; the other worked houses of document 01 are changes of it.
+#[rustfmt::skip]
+pub const TABLE: [u32; 88] = [
+    1, 1, 2, 100, 1, 1, 2, 0,
+    2, 1, 4000, 5000, 1, 0, 0, 0,
+    3, 1, 1, 1000, 1000, 1, 1, 0,
+    3, 1, 2, 1000, 1000, 1, 1, 0,
+    4, 1, 1, 1, 20, 2000, 1, 1,
+    4, 1, 1, 2, 0, 2000, 0, 2,
+    4, 1, 1, 3, 20, 2000, 1, 1,
+    4, 1, 2, 1, 20, 2000, 1, 1,
+    4, 1, 2, 2, 20, 4000, 1, 1,
+    4, 1, 2, 3, 20, 2000, 1, 1,
+    5, 8191, 8, 0, 0, 0, 0, 0,
+];
+
+/// P1's sheet, as the repository's examples have it.
+pub const SHEET: &[u8] = include_bytes!("../../examples/p1.sheet");
+
+/// P1's report, as document 01 prints it.
+pub const REPORT: &str = concat!(
+    "       6       1       1     920    1600     100      83      47\n",
+    "       6       1       2    1600    1600     100      83      83\n",
+    "       7       4      47       0       0       0       0       0\n",
+);
+
+/// P10's table: no marks, and in X only end walls of 540 and 630 mm. Its score in X is 11 at zone 90, 14 at 100.
+#[rustfmt::skip]
+pub const fn better_end_falls(zone: u32) -> [u32; 80] {
+    [
+        1, 1, 2, zone, 1, 1, 2, 0,
+        2, 1, 4000, 5000, 1, 0, 0, 0,
+        3, 1, 1, 1000, 1000, 1, 1, 0,
+        3, 1, 2, 1000, 1000, 1, 1, 0,
+        4, 1, 1, 1, 20, 540, 1, 1,
+        4, 1, 1, 3, 20, 630, 1, 1,
+        4, 1, 2, 1, 20, 2000, 1, 1,
+        4, 1, 2, 2, 20, 4000, 1, 1,
+        4, 1, 2, 3, 20, 2000, 1, 1,
+        5, 8191, 0, 0, 0, 0, 0, 0,
+    ]
+}
+
+/// The house that the manual works through: two storeys, heavy, very soft ground, foundation II, joints IV. Its
+/// openings of more than 3 m stand as rows of at most 3 m. Its marks are worth 7 of 21 points.
+#[rustfmt::skip]
+pub const MANUAL_TABLE: [u32; 304] = [
+    1, 2, 2, 100, 2, 2, 2, 0,
+    2, 1, 4968, 5460, 2, 0, 0, 0,
+    2, 2, 4968, 5460, 2, 0, 0, 0,
+    3, 1, 1, 1242, 1242, 2, 2, 0,
+    3, 1, 2, 1242, 1242, 2, 2, 0,
+    3, 2, 1, 1242, 1242, 2, 2, 0,
+    3, 2, 2, 1242, 1242, 2, 2, 0,
+    4, 1, 1, 1, 31, 3640, 4, 1,
+    4, 1, 1, 1, 20, 1365, 4, 1,
+    4, 1, 1, 1, 0, 3000, 0, 2,
+    4, 1, 1, 1, 0, 1820, 0, 2,
+    4, 1, 1, 2, 20, 910, 4, 1,
+    4, 1, 1, 3, 31, 1820, 4, 1,
+    4, 1, 1, 3, 0, 3000, 0, 3,
+    4, 1, 1, 3, 0, 2460, 0, 3,
+    4, 1, 2, 1, 31, 3640, 4, 1,
+    4, 1, 2, 1, 20, 910, 4, 1,
+    4, 1, 2, 1, 0, 1820, 0, 2,
+    4, 1, 2, 2, 20, 3640, 4, 1,
+    4, 1, 2, 3, 31, 1820, 4, 1,
+    4, 1, 2, 3, 22, 1820, 4, 1,
+    4, 1, 2, 3, 0, 1820, 0, 2,
+    4, 2, 1, 1, 31, 4550, 4, 1,
+    4, 2, 1, 1, 0, 3000, 0, 2,
+    4, 2, 1, 1, 0, 1550, 0, 2,
+    4, 2, 1, 2, 20, 3640, 4, 1,
+    4, 2, 1, 2, 0, 3000, 0, 3,
+    4, 2, 1, 2, 0, 1820, 0, 3,
+    4, 2, 1, 3, 31, 2730, 4, 1,
+    4, 2, 1, 3, 0, 3000, 0, 3,
+    4, 2, 1, 3, 0, 1820, 0, 3,
+    4, 2, 2, 1, 31, 3640, 4, 1,
+    4, 2, 2, 1, 0, 1820, 0, 2,
+    4, 2, 2, 2, 20, 8190, 4, 1,
+    4, 2, 2, 2, 0, 1820, 0, 3,
+    4, 2, 2, 3, 31, 3640, 4, 1,
+    4, 2, 2, 3, 0, 1820, 0, 2,
+    5, 7967, 6152, 0, 0, 0, 0, 0,
+];
+
+/// The report of the manual's house. Its layout factors are those of the manual's table 4.11, as document 01 has it,
+/// not of the formula that the manual works with; so its scores in X are other than the manual's 0.12 and 0.27.
+pub const MANUAL_REPORT: &str = concat!(
+    "       6       1       1    2262    7900      65      70      13\n",
+    "       6       1       2    2866    7900      90      70      22\n",
+    "       6       2       1    1861    3950      65      70      21\n",
+    "       6       2       2    2209    3950      90      70      35\n",
+    "       7       4      13       0       0       0       0       0\n",
+);

@@ -1,0 +1,119 @@
+//! The C example: it compiles without a warning, and prints what the scoring program does.
+
+mod common;
+
+use std::fs;
+use std::path::{Path, PathBuf};
+use std::process::{Command, Output};
+
+use girderbasil_host::random::Random;
+use girderbasil_host::{LINE, MOST_ROWS, worked};
+
+const SHEETS: usize = 80;
+
+/// A folder of a test's own.
+fn folder(name: &str) -> PathBuf {
+    let folder = Path::new(env!("CARGO_TARGET_TMPDIR")).join(name);
+    fs::create_dir_all(&folder).expect("a folder for the test");
+    folder
+}
+
+fn compiled(folder: &Path) -> PathBuf {
+    let program = folder.join("score");
+    let output = Command::new("cc")
+        .args(["-std=c99", "-Wall", "-Wextra", "-Werror", "-pedantic", "-I"])
+        .arg(common::top().join("include"))
+        .arg(common::top().join("examples/score.c"))
+        .arg(env!("GIRDERBASIL_ARCHIVE"))
+        .arg("-o")
+        .arg(&program)
+        .output()
+        .expect("`cc` runs");
+    let complaints = String::from_utf8_lossy(&output.stderr);
+    assert!(
+        output.status.success() && complaints.is_empty(),
+        "{complaints}"
+    );
+    program
+}
+
+fn run(program: &Path, file: &Path) -> Output {
+    Command::new(program).arg(file).output().expect("it runs")
+}
+
+#[test]
+fn it_prints_what_the_program_does() {
+    let folder = folder("sheets");
+    let program = compiled(&folder);
+    let mut random = Random::new(13);
+    let mut sheets: Vec<Vec<u8>> = (0..SHEETS)
+        .map(|_| common::any_sheet(&mut random))
+        .collect();
+    sheets.push(worked::SHEET.to_vec());
+    sheets.push(vec![b' '; MOST_ROWS * LINE + 1]);
+    sheets.push(vec![b' '; (MOST_ROWS + 1) * LINE]);
+    sheets.push(vec![b' '; 1_000_000]);
+    let mut met = [0; 2];
+    for sheet in sheets {
+        let file = folder.join("house.sheet");
+        fs::write(&file, &sheet).expect("the sheet is written");
+        let output = run(&program, &file);
+        let expected = common::run_scoring_program(&sheet);
+        assert_eq!(
+            output.stdout,
+            expected.stdout,
+            "{}",
+            String::from_utf8_lossy(&sheet)
+        );
+        let refused = output.stdout.starts_with(b"       0");
+        assert_eq!(output.status.code(), Some(i32::from(refused)));
+        met[usize::from(refused)] += 1;
+    }
+    assert!(met.iter().all(|&met| met >= SHEETS / 5), "{met:?}");
+}
+
+#[test]
+fn the_example_sheet() {
+    let program = compiled(&folder("example"));
+    let output = run(&program, &common::top().join("examples/p1.sheet"));
+    assert_eq!(output.stdout, worked::REPORT.as_bytes());
+    assert_eq!(output.status.code(), Some(0));
+}
+
+#[test]
+fn the_archive_has_three_functions_and_no_more() {
+    let output = Command::new("nm")
+        .args(["-g", "--defined-only", "-P", env!("GIRDERBASIL_ARCHIVE")])
+        .output()
+        .expect("`nm` runs");
+    let printed = String::from_utf8(output.stdout).expect("it prints text");
+    let mut names: Vec<&str> = printed
+        .lines()
+        .filter(|line| !line.ends_with(':'))
+        .filter_map(|line| line.split_whitespace().next())
+        .collect();
+    names.sort_unstable();
+    assert_eq!(
+        names,
+        [
+            "girderbasil_read",
+            "girderbasil_score",
+            "girderbasil_write_report"
+        ]
+    );
+}
+
+#[test]
+fn no_file_to_read() {
+    let folder = folder("unreadable");
+    let program = compiled(&folder);
+    for output in [
+        run(&program, &folder.join("absent.sheet")),
+        run(&program, &folder),
+        Command::new(&program).output().expect("it runs"),
+    ] {
+        assert_eq!(output.status.code(), Some(2));
+        assert_eq!(output.stdout, b"");
+        assert_ne!(output.stderr, b"");
+    }
+}

@@ -1,0 +1,176 @@
+//! The command `./diagnose`: what it prints, its exit status, and its sentences, which are those of docs/REFUSALS.md.
+
+mod common;
+
+use std::fs;
+use std::process::Command;
+use std::sync::OnceLock;
+
+use girderbasil_host::worked::{REPORT, SHEET, TABLE};
+use girderbasil_host::{FIELD, LINE, MOST_WALLS, ROW, model};
+
+/// What a run of the command gave.
+struct Run {
+    status: i32,
+    printed: String,
+    said: String,
+}
+
+/// Runs the command at the repository's top, with a sheet on standard input.
+fn diagnose(arguments: &[&str], sheet: &[u8]) -> Run {
+    // The first run builds what is missing, so that the others find it and don't build it at the same time.
+    static BUILT: OnceLock<Run> = OnceLock::new();
+    BUILT.get_or_init(|| run(&[], SHEET));
+    run(arguments, sheet)
+}
+
+fn run(arguments: &[&str], sheet: &[u8]) -> Run {
+    let mut command = Command::new(common::top().join("diagnose"));
+    let output = common::run(command.args(arguments).current_dir(common::top()), sheet);
+    Run {
+        status: output.status.code().expect("the command exits"),
+        printed: String::from_utf8(output.stdout).expect("it prints text"),
+        said: String::from_utf8(output.stderr).expect("it says text"),
+    }
+}
+
+#[test]
+fn a_sheet_is_scored_from_a_file_and_from_standard_input() {
+    for run in [
+        diagnose(&["examples/p1.sheet"], b""),
+        diagnose(&[], SHEET),
+        diagnose(&["/dev/stdin"], SHEET),
+    ] {
+        assert_eq!(run.status, 0);
+        assert_eq!(run.printed, REPORT);
+        assert_eq!(run.said, "");
+    }
+}
+
+#[test]
+fn a_refused_sheet_exits_with_1() {
+    let run = diagnose(&[], &SHEET[1..]);
+    assert_eq!(run.status, 1);
+    assert_eq!(words(&run.printed), words("0 1 0 0 0 0 0 0"));
+    assert_eq!(run.printed.len(), LINE);
+    assert_eq!(run.said, "");
+}
+
+#[test]
+fn a_file_that_cannot_be_read_exits_with_2() {
+    for file in ["examples/there-is-no-such.sheet", "examples", ""] {
+        let run = diagnose(&[file], SHEET);
+        assert_eq!(run.status, 2, "{file}");
+        assert_eq!(run.printed, "");
+        assert!(run.said.contains("can't be read"), "{}", run.said);
+    }
+}
+
+#[test]
+fn misuse_exits_with_2() {
+    for arguments in [
+        &["--explained"][..],
+        &["examples/p1.sheet", "examples/p1.sheet"],
+    ] {
+        let run = diagnose(arguments, SHEET);
+        assert_eq!(run.status, 2, "{arguments:?}");
+        assert_eq!(run.printed, "");
+        assert!(run.said.starts_with("diagnose: "), "{}", run.said);
+    }
+}
+
+#[test]
+fn each_verdict_is_explained_in_the_manuals_words() {
+    let words = [
+        "倒壊しない",
+        "一応倒壊しない",
+        "倒壊する可能性がある",
+        "倒壊する可能性が高い",
+    ];
+    let mut met = [false; 4];
+    for length in [2_000, 4_000, 5_000, 8_000] {
+        let table = with_wall_lengths(length);
+        let record = model::score(&table).expect("the house is accepted");
+        let sheet = model::write(&table, usize::MAX).expect("the table can be written");
+        let run = diagnose(&["--explain"], &sheet);
+        let least = record.scores[..2].iter().min().expect("there are scores");
+        let start = format!(
+            "Verdict {}, least score {}.{:02}. ",
+            record.verdict,
+            least / 100,
+            least % 100
+        );
+        let verdict = record.verdict as usize - 1;
+        assert_eq!(run.status, 0);
+        assert_eq!(run.printed.as_bytes(), model::diagnose(&sheet));
+        assert!(run.said.starts_with(&start), "{}", run.said);
+        assert!(run.said.ends_with(&format!(". {}\n", words[verdict])));
+        met[verdict] = true;
+    }
+    assert_eq!(met, [true; 4]);
+}
+
+#[test]
+fn the_refusals_of_the_document_are_told_and_explained() {
+    let document = fs::read_to_string(common::top().join("docs/REFUSALS.md")).expect("it is there");
+    let mut numbers = Vec::new();
+    for row in document.lines() {
+        let cells: Vec<_> = row.split('|').map(str::trim).collect();
+        let [_, number, word, when, example, told, _] = cells[..] else {
+            continue;
+        };
+        let Ok(number) = number.parse::<u32>() else {
+            continue;
+        };
+        numbers.push(number);
+        // The program lends room for every report, so it never tells 9.
+        if number == 9 {
+            continue;
+        }
+        let run = diagnose(&["--explain"], &example_sheet(number, example));
+        assert_eq!(run.status, 1);
+        assert_eq!(words(&run.printed), words(told.trim_matches('`')), "{row}");
+        let start = format!("Refused ({number}, {word}), ");
+        assert!(run.said.starts_with(&start), "{}", run.said);
+        assert!(run.said.ends_with(&format!(" {when}\n")), "{}", run.said);
+    }
+    assert_eq!(numbers, [1, 2, 3, 4, 5, 6, 7, 8, 9]);
+}
+
+/// P1's table with all walls of one length.
+fn with_wall_lengths(length: u32) -> [u32; 88] {
+    let mut table = TABLE;
+    for row in table.chunks_exact_mut(ROW).filter(|row| row[0] == 4) {
+        row[5] = length;
+    }
+    table
+}
+
+/// The sheet of an example: P1 with one line changed, or as the document says of 1 and 5.
+fn example_sheet(number: u32, example: &str) -> Vec<u8> {
+    match number {
+        1 => Vec::new(),
+        5 => {
+            let parts = SHEET.len() - LINE;
+            let last_wall = &SHEET[parts - LINE..parts];
+            let more = last_wall.repeat(MOST_WALLS + 1 - 6);
+            [&SHEET[..parts], &more, &SHEET[parts..]].concat()
+        }
+        _ => {
+            let (line, fields) = example.split_once(": ").expect("a line and its fields");
+            let line: usize = line["line ".len()..].parse().expect("a line's number");
+            let fields = words(fields.trim_matches('`'));
+            let text: String = fields
+                .iter()
+                .map(|field| format!("{field:>FIELD$}"))
+                .collect();
+            let mut sheet = SHEET.to_vec();
+            sheet[LINE * (line - 1)..LINE * line - 1].copy_from_slice(text.as_bytes());
+            sheet
+        }
+    }
+}
+
+fn words(line: &str) -> Vec<&str> {
+    line.split_whitespace().collect()
+}

@@ -1,0 +1,69 @@
+//! Running programs, for the tests that do. Each test uses its own part of this.
+#![allow(dead_code)]
+
+use std::io::{ErrorKind, Write};
+use std::path::{Path, PathBuf};
+use std::process::{Command, Output, Stdio};
+use std::sync::OnceLock;
+
+use girderbasil_host::model;
+use girderbasil_host::random::{Random, damage};
+
+/// The repository's top.
+pub fn top() -> &'static Path {
+    Path::new(env!("CARGO_MANIFEST_DIR"))
+        .parent()
+        .expect("host/ stands in the repository")
+}
+
+/// The scoring program. `rt` proves and builds it where it isn't as its source is; else it does nothing.
+pub fn scoring_program() -> &'static Path {
+    static PROGRAM: OnceLock<PathBuf> = OnceLock::new();
+    PROGRAM.get_or_init(|| {
+        let output = Command::new("rt")
+            .args(["check", "diagnose"])
+            .current_dir(top())
+            .output()
+            .expect("`rt` runs");
+        assert!(
+            output.status.success(),
+            "`rt check diagnose` failed:\n{}",
+            String::from_utf8_lossy(&output.stdout)
+        );
+        top().join("target/bin/diagnose")
+    })
+}
+
+/// Runs a command with something on its standard input.
+pub fn run(command: &mut Command, input: &[u8]) -> Output {
+    let mut child = command
+        .stdin(Stdio::piped())
+        .stdout(Stdio::piped())
+        .stderr(Stdio::piped())
+        .spawn()
+        .expect("the command starts");
+    let mut piped = child.stdin.take().expect("its input is piped");
+    match piped.write_all(input) {
+        // It need not read to the end, or at all.
+        Err(error) if error.kind() == ErrorKind::BrokenPipe => {}
+        written => written.expect("its input can be written"),
+    }
+    drop(piped);
+    child.wait_with_output().expect("the command ends")
+}
+
+/// Runs the scoring program on a sheet.
+pub fn run_scoring_program(sheet: &[u8]) -> Output {
+    run(&mut Command::new(scoring_program()), sheet)
+}
+
+/// A sheet, damaged or not, as itself or for the table it has.
+pub fn any_sheet(random: &mut Random) -> Vec<u8> {
+    let table = damage::any_table(random);
+    // A damaged table may have no sheet, for its length or its numbers; the empty sheet then stands for it.
+    let mut sheet = model::write(&table, usize::MAX).unwrap_or_default();
+    if random.chance(30) {
+        damage::damage_sheet(random, &mut sheet);
+    }
+    sheet
+}

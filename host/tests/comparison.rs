@@ -1,0 +1,137 @@
+//! Demand 3 tried out: a house that is worse off than another is not scored better.
+//!
+//! The proof of it is over all pairs of houses; this meets it in the library as it is linked.
+
+use girderbasil_host::answers::Record;
+use girderbasil_host::model::layout::Band;
+use girderbasil_host::model::score::Diagnosis;
+use girderbasil_host::random::{Random, house};
+use girderbasil_host::{ROW, library, worked};
+
+const PAIRS: usize = 200_000;
+
+/// The columns of the house row that may be higher in the worse house, with the numbers they may hold.
+const WORSENED: [(usize, &[u32]); 4] = [
+    (2, &[1, 2, 3]),
+    (3, &[70, 80, 90, 100]),
+    (4, &[1, 2]),
+    (6, &[1, 2]),
+];
+
+/// How many pairs were met of each sort.
+#[derive(Debug, Default)]
+struct Tally {
+    equal: usize,
+    all_bands_kept: usize,
+    some_band_kept: usize,
+    no_band_kept: usize,
+    risen_where_not_kept: usize,
+    fallen_where_kept: usize,
+    verdict_worse: usize,
+}
+
+/// What is compared of a house.
+struct Scored {
+    record: Record,
+    before_layout: Vec<u32>,
+    higher_bands: Vec<Band>,
+}
+
+fn scored(table: &[u32]) -> Scored {
+    let diagnosis = Diagnosis::of(table).expect("both houses are accepted");
+    Scored {
+        record: library::score(table).expect("both houses are accepted"),
+        before_layout: diagnosis
+            .assessments()
+            .map(|it| it.score_before_layout())
+            .collect(),
+        higher_bands: diagnosis.assessments().map(|it| it.higher_band()).collect(),
+    }
+}
+
+/// A house like another but for weight, zone, ground and age, none lower, and for more marks: any of them, or none.
+fn worse_house(random: &mut Random, table: &[u32]) -> Vec<u32> {
+    let mut worse = table.to_vec();
+    // Where few things change, ends often keep their bands; where many do, they seldom can.
+    let share = random.pick(&[20, 50, 100]);
+    for (column, numbers) in WORSENED {
+        let higher: Vec<u32> = numbers
+            .iter()
+            .copied()
+            .filter(|&it| it >= table[column])
+            .collect();
+        if random.chance(share) {
+            worse[column] = random.pick(&higher);
+        }
+    }
+    if random.chance(share) {
+        let parts = table.len() - ROW;
+        worse[parts + 2] |= house::marks(random, table[parts + 1]);
+    }
+    worse
+}
+
+fn compare(better: &[u32], worse: &[u32], tally: &mut Tally) {
+    let (a, b) = (scored(better), scored(worse));
+    let count = a.record.count as usize;
+    assert_eq!(b.record.count as usize, count);
+    let mut kept = 0;
+    for each in 0..count {
+        assert!(
+            b.before_layout[each] <= a.before_layout[each],
+            "{better:?} and {worse:?}"
+        );
+        let (score_a, score_b) = (a.record.scores[each], b.record.scores[each]);
+        if a.higher_bands[each] == b.higher_bands[each] {
+            assert!(score_b <= score_a, "{better:?} and {worse:?}");
+            kept += 1;
+            tally.fallen_where_kept += usize::from(score_b < score_a);
+        } else {
+            tally.risen_where_not_kept += usize::from(score_b > score_a);
+        }
+    }
+    if kept == count {
+        assert!(
+            b.record.verdict >= a.record.verdict,
+            "{better:?} and {worse:?}"
+        );
+        tally.all_bands_kept += 1;
+        tally.verdict_worse += usize::from(b.record.verdict > a.record.verdict);
+    } else if kept > 0 {
+        tally.some_band_kept += 1;
+    } else {
+        tally.no_band_kept += 1;
+    }
+    tally.equal += usize::from(better == worse);
+}
+
+#[test]
+fn a_house_worse_off_is_not_scored_better() {
+    let mut random = Random::new(9);
+    let mut tally = Tally::default();
+    for _ in 0..PAIRS {
+        let better = house::house(&mut random);
+        let worse = worse_house(&mut random, &better);
+        compare(&better, &worse, &mut tally);
+    }
+    println!("{tally:?}");
+    let met = [
+        tally.equal,
+        tally.all_bands_kept,
+        tally.some_band_kept,
+        tally.no_band_kept,
+        tally.risen_where_not_kept,
+        tally.fallen_where_kept,
+        tally.verdict_worse,
+    ];
+    assert!(met.iter().all(|&met| met >= 500));
+}
+
+/// P10: the better end falls from B to A, and the score rises from 11 to 14. So the comparison needs its condition.
+#[test]
+fn a_score_rises_where_the_better_end_falls() {
+    let mut tally = Tally::default();
+    let [better, worse] = [90, 100].map(worked::better_end_falls);
+    compare(&better, &worse, &mut tally);
+    assert_eq!((tally.some_band_kept, tally.risen_where_not_kept), (1, 1));
+}

@@ -1,0 +1,51 @@
+//! The model on the houses of crates/houses: it gives the output that is expected of the program there.
+
+mod common;
+
+use std::fs;
+
+use girderbasil_host::answers::Refusal;
+use girderbasil_host::model::{self, sheet};
+use girderbasil_host::{MOST_REPORT_BYTES, MOST_ROWS, ROW};
+
+/// The least houses that are run, so that an empty list does not pass.
+const LEAST: usize = 80;
+
+/// What is answered for a sheet with so many bytes lent for its report.
+fn answer(sheet: &[u8], lent: usize) -> Result<usize, Refusal> {
+    let table = model::read(sheet, MOST_ROWS * ROW)?;
+    Ok(model::write_report(&table, lent)?.len())
+}
+
+/// An answer as the program prints it: number, row, column, count.
+fn print_answer(answer: Result<usize, Refusal>, printed: &mut Vec<u8>) {
+    let row = match answer {
+        Ok(count) => [0, 0, 0, count as u32, 0, 0, 0, 0],
+        Err(refusal) => [refusal.number, refusal.row, refusal.column, 0, 0, 0, 0, 0],
+    };
+    sheet::write_row(&row, printed);
+}
+
+#[test]
+fn the_model_prints_what_is_expected_of_the_program() {
+    let folder = common::top().join("crates/houses");
+    let names = fs::read_to_string(folder.join("args")).expect("the houses' names");
+    let mut printed = Vec::new();
+    for name in names.lines() {
+        let sheet = fs::read(folder.join("data").join(name)).expect("a house's sheet");
+        printed.extend(name.bytes());
+        printed.push(b'\n');
+        printed.extend(model::diagnose(&sheet));
+        if let Ok(count) = answer(&sheet, MOST_REPORT_BYTES) {
+            print_answer(answer(&sheet, count), &mut printed);
+            print_answer(answer(&sheet, count - 1), &mut printed);
+        }
+        print_answer(answer(&sheet, 0), &mut printed);
+    }
+    let expected = fs::read(folder.join("stdout")).expect("what the program must print");
+    assert_eq!(
+        String::from_utf8(printed).expect("it is text"),
+        String::from_utf8(expected).expect("it is text")
+    );
+    assert!(names.lines().count() >= LEAST);
+}
