@@ -7,7 +7,7 @@ use std::path::{Path, PathBuf};
 use std::process::{Command, Output};
 
 use girderbasil_host::random::Random;
-use girderbasil_host::{LINE, MOST_ROWS, worked};
+use girderbasil_host::{LINE, MOST_ROWS, model, worked};
 
 const SHEETS: usize = 80;
 
@@ -73,8 +73,19 @@ fn it_prints_what_the_program_does() {
 }
 
 #[test]
-fn the_example_sheet() {
-    let program = compiled(&folder("example"));
+fn the_example_sheets() {
+    let program = compiled(&folder("examples"));
+    let mut met = 0;
+    for entry in fs::read_dir(common::top().join("examples")).expect("the examples") {
+        let file = entry.expect("an example").path();
+        if file.extension().is_some_and(|kind| kind == "sheet") {
+            let sheet = fs::read(&file).expect("a sheet");
+            let output = run(&program, &file);
+            assert_eq!(output.stdout, model::diagnose(&sheet), "{file:?}");
+            met += 1;
+        }
+    }
+    assert!(met >= 3);
     let output = run(&program, &common::top().join("examples/p1.sheet"));
     assert_eq!(output.stdout, worked::REPORT.as_bytes());
     assert_eq!(output.status.code(), Some(0));
