@@ -262,15 +262,36 @@ fn sheet_of(table: &[u32]) -> Vec<u8> {
     model::write(&held, usize::MAX).unwrap_or_default()
 }
 
-#[test]
-fn houses_are_scored_as_by_the_model() {
-    let mut random = Random::new(1);
+/// Has so many tables of a maker scored and reported.
+fn check_tables(seed: u64, count: usize, make: fn(&mut Random) -> Vec<u32>) -> Tally {
+    let mut random = Random::new(seed);
     let mut tally = Tally::default();
-    for _ in 0..HOUSES {
-        let table = house::house(&mut random);
+    for _ in 0..count {
+        let table = make(&mut random);
         check_table(&mut random, &table, &mut tally);
     }
     println!("{tally:?}");
+    tally
+}
+
+/// Has so many sheets of a maker read, and the tables scored and reported that they have.
+fn check_sheets(seed: u64, count: usize, make: fn(&mut Random) -> Vec<u8>) -> Tally {
+    let mut random = Random::new(seed);
+    let mut tally = Tally::default();
+    for _ in 0..count {
+        let sheet = make(&mut random);
+        if let Some(table) = check_read(&mut random, &sheet, &mut tally) {
+            check_table(&mut random, &table, &mut tally);
+        }
+        assert_eq!(library::diagnose(&sheet), model::diagnose(&sheet));
+    }
+    println!("{tally:?}");
+    tally
+}
+
+#[test]
+fn houses_are_scored_as_by_the_model() {
+    let tally = check_tables(1, HOUSES, house::house);
     assert_eq!(tally.scored[0], HOUSES);
     tally.assert_houses(1_000);
     tally.assert_answers(&tally.reported, &[0, 9], 10_000);
@@ -278,14 +299,11 @@ fn houses_are_scored_as_by_the_model() {
 
 #[test]
 fn damaged_tables_are_refused_as_by_the_model() {
-    let mut random = Random::new(2);
-    let mut tally = Tally::default();
-    for _ in 0..DAMAGED_TABLES {
-        let mut table = house::house(&mut random);
-        damage::damage_table(&mut random, &mut table);
-        check_table(&mut random, &table, &mut tally);
-    }
-    println!("{tally:?}");
+    let tally = check_tables(2, DAMAGED_TABLES, |random| {
+        let mut table = house::house(random);
+        damage::damage_table(random, &mut table);
+        table
+    });
     tally.assert_answers(&tally.scored, &[0, 1, 3, 4, 5, 6, 7, 8], 500);
     tally.assert_answers(&tally.reported, &[0, 1, 3, 4, 5, 6, 7, 8, 9], 500);
     assert!(tally.other_before_short >= 1_000);
@@ -294,16 +312,7 @@ fn damaged_tables_are_refused_as_by_the_model() {
 
 #[test]
 fn sheets_are_read_and_scored_as_by_the_model() {
-    let mut random = Random::new(3);
-    let mut tally = Tally::default();
-    for _ in 0..SHEETS {
-        let sheet = sheet_of(&damage::any_table(&mut random));
-        if let Some(table) = check_read(&mut random, &sheet, &mut tally) {
-            check_table(&mut random, &table, &mut tally);
-        }
-        assert_eq!(library::diagnose(&sheet), model::diagnose(&sheet));
-    }
-    println!("{tally:?}");
+    let tally = check_sheets(3, SHEETS, |random| sheet_of(&damage::any_table(random)));
     tally.assert_answers(&tally.read, &[0, 1, 9], 500);
     tally.assert_answers(&tally.scored, &[0, 3, 4, 5, 6, 7, 8], 100);
     assert!(tally.read[0] >= SHEETS / 2);
@@ -312,17 +321,11 @@ fn sheets_are_read_and_scored_as_by_the_model() {
 
 #[test]
 fn damaged_sheets_are_refused_as_by_the_model() {
-    let mut random = Random::new(4);
-    let mut tally = Tally::default();
-    for _ in 0..DAMAGED_SHEETS {
-        let mut sheet = sheet_of(&house::house(&mut random));
-        damage::damage_sheet(&mut random, &mut sheet);
-        if let Some(table) = check_read(&mut random, &sheet, &mut tally) {
-            check_table(&mut random, &table, &mut tally);
-        }
-        assert_eq!(library::diagnose(&sheet), model::diagnose(&sheet));
-    }
-    println!("{tally:?}");
+    let tally = check_sheets(4, DAMAGED_SHEETS, |random| {
+        let mut sheet = sheet_of(&house::house(random));
+        damage::damage_sheet(random, &mut sheet);
+        sheet
+    });
     tally.assert_answers(&tally.read, &[0, 1, 2, 9], 5_000);
     assert!(tally.short_before_misprint >= 1_000);
     assert!(tally.cases >= 5_000);

@@ -35,32 +35,32 @@ fn all_pairs_of_bands_are_met() {
     }
 }
 
-#[test]
-fn scores_of_surveyed_houses_spread() {
-    let mut random = Random::new(6);
-    let mut by_tens = [0; 100];
-    for _ in 0..HOUSES {
-        let table = house::surveyed(&mut random);
-        let diagnosis = Diagnosis::of(&table).expect("a house is accepted");
-        for assessment in diagnosis.assessments() {
-            by_tens[assessment.score() as usize / 10] += 1;
-        }
-    }
-    assert!(by_tens.iter().all(|&met| met >= 10), "{by_tens:?}");
-}
-
-/// The edges of the verdicts are met exactly, and just missed.
-#[test]
-fn edges_of_scores_are_met() {
-    let mut random = Random::new(7);
+/// How often each score is met in houses of a maker; all must be accepted.
+fn scores_met(seed: u64, maker: fn(&mut Random) -> Vec<u32>) -> [usize; 1_000] {
+    let mut random = Random::new(seed);
     let mut met = [0; 1_000];
     for _ in 0..HOUSES {
-        let table = house::on_edges(&mut random);
+        let table = maker(&mut random);
         let diagnosis = Diagnosis::of(&table).expect("a house is accepted");
         for assessment in diagnosis.assessments() {
             met[assessment.score() as usize] += 1;
         }
     }
+    met
+}
+
+#[test]
+fn scores_of_surveyed_houses_spread() {
+    let met = scores_met(6, house::surveyed);
+    for tens in met.chunks(10) {
+        assert!(tens.iter().sum::<usize>() >= 10, "{met:?}");
+    }
+}
+
+/// The edges of the verdicts are met exactly, and just missed.
+#[test]
+fn edges_of_scores_are_met() {
+    let met = scores_met(7, house::on_edges);
     for score in [69, 70, 99, 100, 149, 150, 998, 999] {
         assert!(met[score] >= 100, "{score} was met {} times", met[score]);
     }
