@@ -4,9 +4,9 @@
  * answer what the customer's paper (document 01) defines, for every input, and to leave lent storage as it
  * defines. None keeps anything between calls, allocates, or calls the system, so any threads may call them.
  *
- * What the proof asks of the caller, as any C function does: a pointer stands for as many elements as the
- * length beside it says, and storage that is lent to be filled overlaps no other argument. With length 0 the
- * pointer may be null.
+ * What the caller has to see to, as with any C function: a pointer is aligned for its type and stands for as
+ * many elements as the length beside it says, and storage that is lent to be filled overlaps no other
+ * argument. With length 0 the pointer may be null. A call takes some 10 KB of stack at most.
  *
  * Link target/staticlib/libgirderbasil.a, which `rt staticlib girderbasil` builds (x86-64).
  */
