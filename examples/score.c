@@ -4,7 +4,8 @@
  *     cc -std=c99 -I include examples/score.c target/staticlib/libgirderbasil.a -o score
  *     ./score examples/p1.sheet
  *
- * Exit status: 0 the house is scored, 1 its sheet is refused, 2 the file can't be read.
+ * Exit status: 0 the house is scored, 1 its sheet is refused, 2 the file can't be read, 3 the report can't be
+ * printed.
  */
 #include <stdio.h>
 
@@ -62,6 +63,9 @@ int main(int argc, char **argv)
     written = girderbasil_write_report(table, numbers, report, sizeof report);
     if (written.number != 0)
         return refuse(written.number, written.row, written.column);
-    fwrite(report, 1, written.count, stdout);
+    if (fwrite(report, 1, written.count, stdout) != written.count || fflush(stdout) != 0) {
+        perror("standard output");
+        return 3;
+    }
     return 0;
 }

@@ -19,7 +19,7 @@ const DAMAGED_TABLES: usize = 300_000;
 const SHEETS: usize = 200_000;
 const DAMAGED_SHEETS: usize = 300_000;
 
-/// Storage to be lent, inside a larger buffer. It starts at any byte, aligned or not.
+/// Storage to be lent, inside a larger buffer. Bytes start anywhere in it, aligned or not.
 struct Lent<T> {
     buffer: Vec<T>,
     range: Range<usize>,

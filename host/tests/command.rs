@@ -3,6 +3,8 @@
 mod common;
 
 use std::fs;
+use std::os::unix::net::UnixListener;
+use std::path::Path;
 use std::process::Command;
 use std::sync::OnceLock;
 
@@ -18,20 +20,47 @@ struct Run {
 
 /// Runs the command at the repository's top, with a sheet on standard input.
 fn diagnose(arguments: &[&str], sheet: &[u8]) -> Run {
-    // The first run builds what is missing, so that the others find it and don't build it at the same time.
-    static BUILT: OnceLock<Run> = OnceLock::new();
-    BUILT.get_or_init(|| run(&[], SHEET));
-    run(arguments, sheet)
+    first_run();
+    run(command().args(arguments), sheet)
 }
 
-fn run(arguments: &[&str], sheet: &[u8]) -> Run {
+/// The first run finds no program and builds it, so that the others find it and don't build it at the same time.
+fn first_run() -> &'static Run {
+    static FIRST: OnceLock<Run> = OnceLock::new();
+    FIRST.get_or_init(|| {
+        let program = common::scoring_program();
+        fs::remove_file(program).expect("the program is there");
+        run(&mut command(), SHEET)
+    })
+}
+
+fn command() -> Command {
     let mut command = Command::new(common::top().join("diagnose"));
-    let output = common::run(command.args(arguments).current_dir(common::top()), sheet);
+    command.current_dir(common::top());
+    command
+}
+
+fn run(command: &mut Command, sheet: &[u8]) -> Run {
+    let output = common::run(command, sheet);
     Run {
         status: output.status.code().expect("the command exits"),
         printed: String::from_utf8(output.stdout).expect("it prints text"),
         said: String::from_utf8(output.stderr).expect("it says text"),
     }
+}
+
+/// The command as a line of the shell, for what only a shell can arrange.
+fn shell(line: &str) -> Run {
+    first_run();
+    let mut shell = Command::new("sh");
+    run(shell.args(["-c", line]).current_dir(common::top()), SHEET)
+}
+
+#[test]
+fn a_missing_program_is_built() {
+    let first = first_run();
+    assert_eq!((first.status, &*first.printed), (0, REPORT));
+    assert!(first.said.starts_with("diagnose: proving and building"));
 }
 
 #[test]
@@ -58,12 +87,43 @@ fn a_refused_sheet_exits_with_1() {
 
 #[test]
 fn a_file_that_cannot_be_read_exits_with_2() {
-    for file in ["examples/there-is-no-such.sheet", "examples", ""] {
+    let socket = Path::new(env!("CARGO_TARGET_TMPDIR")).join("command.socket");
+    let _ = fs::remove_file(&socket);
+    let _listener = UnixListener::bind(&socket).expect("a socket");
+    let socket = socket.to_str().expect("a path of text");
+    for file in ["examples/there-is-no-such.sheet", "examples", "", socket] {
         let run = diagnose(&[file], SHEET);
         assert_eq!(run.status, 2, "{file}");
         assert_eq!(run.printed, "");
-        assert!(run.said.contains("can't be read"), "{}", run.said);
+        assert_eq!(run.said, format!("diagnose: {file}: can't be read\n"));
     }
+}
+
+#[test]
+fn standard_input_that_is_closed_exits_with_2() {
+    let run = shell("./diagnose <&-");
+    assert_eq!((run.status, &*run.printed), (2, ""));
+}
+
+#[test]
+fn a_report_that_cannot_be_printed_exits_with_3() {
+    assert_eq!(shell("./diagnose >/dev/full").status, 3);
+    assert_eq!(shell("./diagnose >&-").status, 3);
+}
+
+#[test]
+fn a_sentence_that_cannot_be_said_changes_no_status() {
+    assert_eq!(shell("./diagnose --explain 2>/dev/full").status, 0);
+    let run = shell("./diagnose --explain examples/refused.sheet 2>/dev/full");
+    assert_eq!(run.status, 1);
+}
+
+#[test]
+fn help_is_printed() {
+    let run = diagnose(&["--help"], SHEET);
+    assert_eq!(run.status, 0);
+    assert!(run.printed.starts_with("diagnose [--explain] [FILE]: "));
+    assert!(run.printed.contains("Exit status: 0 scored, 1 refused"));
 }
 
 #[test]

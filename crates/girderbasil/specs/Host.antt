@@ -1,10 +1,8 @@
 -- The paper's values of the structs of numbers in which answers cross to a host. Document 01: "The host program on the phone calls it with
 -- numbers and byte slices and must get the same answers."
-use Prim.Native.Nat.{ℕ}
 use lib.Dec.{eqb}
 use Rattle.answer.specs.Told.{Told}
 use Rattle.diagnosis.specs.Answers.{ToldScoring}
-use Rattle.diagnosis.specs.declared.scores.Record.{Record}
 use Rattle.girderbasil.specs.declared.HostAnswer.{HostAnswer}
 use Rattle.girderbasil.specs.declared.HostScoring.{HostScoring}
 

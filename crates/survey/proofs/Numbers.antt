@@ -4,7 +4,7 @@ use mathlib.Core.List.{List}
 use Prim.Native.Nat.{ℕ, _+_, _≤_}
 use lib.Dec.{eqb, ltb, lit≤}
 use lib.ListN.{length}
-use Rattle.answer.specs.Told.{Told, counted, refusal, sheet-length, row-out-of-order, no-parts}
+use Rattle.answer.specs.Told.{counted, refusal, sheet-length, row-out-of-order, no-parts}
 use Rattle.answer.specs.First.{first}
 use Rattle.answer.specs.Length.{rowsIn}
 use Rattle.survey.specs.declared.fault.Fault.{Fault}

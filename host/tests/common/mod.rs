@@ -6,8 +6,8 @@ use std::path::{Path, PathBuf};
 use std::process::{Command, Output, Stdio};
 use std::sync::OnceLock;
 
-use girderbasil_host::model;
 use girderbasil_host::random::{Random, damage};
+use girderbasil_host::{model, worked};
 
 /// The repository's top.
 pub fn top() -> &'static Path {
@@ -16,19 +16,15 @@ pub fn top() -> &'static Path {
         .expect("host/ stands in the repository")
 }
 
-/// The scoring program. `rt` proves and builds it where it isn't as its source is; else it does nothing.
+/// The scoring program. The command builds it where it is missing or older than its source.
 pub fn scoring_program() -> &'static Path {
     static PROGRAM: OnceLock<PathBuf> = OnceLock::new();
     PROGRAM.get_or_init(|| {
-        let output = Command::new("rt")
-            .args(["check", "diagnose"])
-            .current_dir(top())
-            .output()
-            .expect("`rt` runs");
+        let output = run(&mut Command::new(top().join("diagnose")), worked::SHEET);
         assert!(
             output.status.success(),
-            "`rt check diagnose` failed:\n{}",
-            String::from_utf8_lossy(&output.stdout)
+            "{}",
+            String::from_utf8_lossy(&output.stderr)
         );
         top().join("target/bin/diagnose")
     })
