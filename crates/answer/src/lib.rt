@@ -41,6 +41,8 @@ pub const ROW: usize = 8;
 
 // The most lines of a sheet, and the most rows of a table.
 pub const MOST_ROWS: usize = 311;
+// And the numbers of the longest table.
+pub const MOST_NUMBERS: usize = MOST_ROWS * ROW;
 
 // How many lines of `unit` bytes, or rows of `unit` numbers, a length holds; 0 where refusal 1 is
 // due: nothing lent, a length that is no multiple of `unit`, or too many lines or rows.

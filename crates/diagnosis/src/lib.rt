@@ -14,6 +14,7 @@ mod scores;
 mod strengths;
 
 pub use program::diagnose;
+pub use reports::MOST_REPORT_BYTES;
 pub use reports::refusal_line;
 pub use reports::report;
 pub use scores::Outcome;

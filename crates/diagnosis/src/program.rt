@@ -1,16 +1,13 @@
 // The whole program on slices: from a sheet's bytes to its report's, or to the refusal.
 use crate::reports;
 use answer::Answer;
-use answer::MOST_ROWS;
+use answer::MOST_NUMBERS;
 use answer::ROW;
 use sheet::read;
 ghost use mathlib.Core.Path.{_≡_};
 ghost use lib.ListN.{length};
 ghost use Rattle.answer.specs.Told.{told};
 ghost use Rattle.diagnosis.specs.Program.{mostNumbers, diagnosing, afterDiagnosing};
-
-// The numbers of the longest table.
-const NUMBERS: usize = MOST_ROWS * ROW;
 
 // Diagnoses a sheet by way of a table that has room for any.
 fn diagnose_by(sheet: &[u8], table: &mut [u32], report: &mut [u8]) -> Answer
@@ -34,6 +31,6 @@ pub fn diagnose(sheet: &[u8], report: &mut [u8]) -> Answer
     ensures { λ r. ⌜ told r ≡ diagnosing (now (sheet .entry)) (length (now (report .entry))) ⌝ }
     ensures { λ _. ⌜ now (report .exit) ≡ afterDiagnosing (now (sheet .entry)) (now (report .entry)) ⌝ }
 {
-    let mut table = [0u32; NUMBERS];
+    let mut table = [0u32; MOST_NUMBERS];
     diagnose_by(sheet, &mut table, report)
 }

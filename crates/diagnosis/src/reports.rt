@@ -33,8 +33,10 @@ const HELD_UNIT: u64 = 10_000;
 
 const REQUIRED_UNIT: u64 = 10_000_000;
 
-// The numbers of the longest report: two rows for each of three storeys, and the verdict's.
-const REPORT_NUMBERS: usize = ROW * 7;
+// The lines of the longest report: two for each of three storeys, and the verdict's.
+const MOST_LINES: usize = 7;
+// Its bytes, for callers that lend as many as any report needs.
+pub const MOST_REPORT_BYTES: usize = LINE * MOST_LINES;
 
 // The row of a storey and direction, by what is worked out for it and the deterioration factor.
 fn result_row(storey: u32, direction: u32, found: Assessment, factor: Fraction) -> [u32; 8]
@@ -143,7 +145,7 @@ fn report_accepted(table: &[u32], report: &mut [u8]) -> Answer
             column: 0,
         };
     }
-    let mut rows = [0u32; REPORT_NUMBERS];
+    let mut rows = [0u32; ROW * MOST_LINES];
     print_report(table, &mut rows, report);
     Answer::Count(length as u32)
 }

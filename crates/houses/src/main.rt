@@ -5,14 +5,12 @@
 //
 // Uses `answer`, `sheet`, `diagnosis` and the kit's `io`, `libc` and `os`.
 use answer::Answer;
+use diagnosis::MOST_REPORT_BYTES;
 use libc::STDOUT_FILENO;
-
-// Seven lines, which no report exceeds.
-const REPORT: usize = 455;
 
 // Prints a sheet's report, or the refusal's line, and answers the count of the report's bytes.
 fn print_diagnosis(sheet: &[u8]) -> usize {
-    let mut report = [0u8; REPORT];
+    let mut report = [0u8; MOST_REPORT_BYTES];
     match diagnosis::diagnose(sheet, &mut report) {
         Answer::Count(count) => {
             let length = io::count(count as isize, &report);
@@ -36,10 +34,10 @@ fn print_row(row: [u32; 8]) {
 
 // Prints what is answered for a sheet with so many bytes lent.
 fn lend(sheet: &[u8], room: usize) {
-    if REPORT < room {
+    if MOST_REPORT_BYTES < room {
         return;
     }
-    let mut report = [0u8; REPORT];
+    let mut report = [0u8; MOST_REPORT_BYTES];
     match diagnosis::diagnose(sheet, &mut report[0..room]) {
         Answer::Refused {
             number,

@@ -8,7 +8,7 @@ use crate::refused_at;
 use answer::Answer;
 use answer::LENT_SPACE_SHORT;
 use answer::MISPRINT;
-use answer::MOST_ROWS;
+use answer::MOST_NUMBERS;
 use answer::SHEET_LENGTH;
 use answer::rows_in;
 ghost use mathlib.Core.Path.{_≡_};
@@ -21,9 +21,6 @@ ghost use Rattle.sheet.specs.Sheet.{misprinted, over, numbersOf, reading
 
 // The places of a line that can be misprinted: its fields, then its last byte.
 const PLACES: usize = 9;
-
-// The numbers of the longest sheet.
-const NUMBERS: usize = MOST_ROWS * ROW;
 
 // Reads one line into the numbers of a row: its first misprinted place from the left, or 9.
 fn read_line(line: &[u8], row: &mut [u32]) -> usize
@@ -110,6 +107,6 @@ pub fn read(sheet: &[u8], table: &mut [u32]) -> Answer
     if lent < ROW * lines {
         return refused(LENT_SPACE_SHORT);
     }
-    let mut numbers = [0u32; NUMBERS];
+    let mut numbers = [0u32; MOST_NUMBERS];
     read_by(sheet, lines, &mut numbers, table)
 }

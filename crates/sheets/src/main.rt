@@ -4,16 +4,15 @@
 // no sheet gives. `again` is proved to give the same sheet or the refusal; what comes from the disk and
 // goes to the terminal is tested, against the file stdout.
 use answer::Answer;
+use answer::MOST_NUMBERS;
 use libc::STDOUT_FILENO;
 ghost use mathlib.Core.Path.{_≡_};
 ghost use lib.ListN.{length};
 ghost use Rattle.answer.specs.Told.{told};
 ghost use Rattle.sheets.specs.Again.{again, afterAgain};
 
-// The numbers of the longest sheet.
-const NUMBERS: usize = answer::MOST_ROWS * sheet::ROW;
-// The numbers of a sheet that is a line longer, and its bytes.
-const TABLE: usize = NUMBERS + sheet::ROW;
+// The numbers of a sheet that is a line longer than the longest, and its bytes.
+const TABLE: usize = MOST_NUMBERS + sheet::ROW;
 
 const BYTES: usize = (answer::MOST_ROWS + 1) * sheet::LINE;
 
@@ -64,17 +63,17 @@ fn print_answer(answer: Answer) {
 
 // Prints what is answered for a sheet with so many numbers and bytes lent.
 fn lend(sheet: &[u8], numbers: usize, room: usize) {
-    if NUMBERS < numbers || BYTES < room {
+    if MOST_NUMBERS < numbers || BYTES < room {
         return;
     }
-    let mut table = [0u32; NUMBERS];
+    let mut table = [0u32; MOST_NUMBERS];
     let mut bytes = [0u8; BYTES];
     print_answer(again(sheet, &mut table[0..numbers], &mut bytes[0..room]));
 }
 
 // Enough lent; just enough for eleven lines; a number short; a byte short; nothing.
 fn run_lendings(sheet: &[u8]) {
-    lend(sheet, NUMBERS, BYTES);
+    lend(sheet, MOST_NUMBERS, BYTES);
     lend(sheet, 88, 715);
     lend(sheet, 87, 715);
     lend(sheet, 88, 714);
@@ -97,7 +96,7 @@ fn run(path: &[u8], lendings: bool) {
         run_lendings(&sheet[..length]);
         return;
     }
-    let mut table = [0u32; NUMBERS];
+    let mut table = [0u32; MOST_NUMBERS];
     let mut bytes = io::large_buffer();
     print_again(&sheet[..length], &mut table, &mut bytes);
 }
@@ -129,8 +128,8 @@ fn run_tables() {
     write_zeros(7, 0, 0, 0, BYTES);
     write_zeros(8, 0, 0, 0, 65);
     write_zeros(9, 0, 0, 0, BYTES);
-    write_zeros(NUMBERS, 0, 0, 0, BYTES - 65);
-    write_zeros(NUMBERS, 0, 0, 0, BYTES - 66);
+    write_zeros(MOST_NUMBERS, 0, 0, 0, BYTES - 65);
+    write_zeros(MOST_NUMBERS, 0, 0, 0, BYTES - 66);
     write_zeros(TABLE, 0, 0, 0, BYTES);
     write_zeros(80, 79, 79, 99_999_999, 650);
     write_zeros(80, 79, 79, 100_000_000, 649);

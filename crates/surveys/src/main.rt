@@ -4,6 +4,7 @@
 // to 4, of which there are none. After one of the words below, tables are run in another way. What is
 // printed is tested, against the file stdout.
 use answer::Answer;
+use answer::MOST_NUMBERS;
 use answer::MOST_ROWS;
 use answer::ROW;
 use libc::STDOUT_FILENO;
@@ -24,10 +25,8 @@ const LONGER: u32 = 5;
 
 const LARGEST: u32 = 4_294_967_295;
 
-// The numbers of the longest table; and of one that is a row longer.
-const NUMBERS: usize = MOST_ROWS * ROW;
-
-const TABLE: usize = NUMBERS + ROW;
+// The numbers of a table that is a row longer than the longest.
+const TABLE: usize = MOST_NUMBERS + ROW;
 
 fn print_row(row: [u32; 8]) {
     io::write_all(STDOUT_FILENO, &sheet::print_line(row));
@@ -131,7 +130,7 @@ fn run_large(table: &mut [u32]) {
 
 // Runs the front of a table in one of the ways; what stands after it is zeros.
 fn run_table(table: &mut [u32], length: usize, way: u32) {
-    if NUMBERS < length {
+    if MOST_NUMBERS < length {
         return;
     }
     if table.len() < length + ROW {
