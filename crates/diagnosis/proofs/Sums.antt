@@ -2,7 +2,7 @@
 use mathlib.Core.Path.{_≡_, refl, ap, _∙_}
 use mathlib.Core.Bool.{Bool, true, false, cond}
 use mathlib.Core.List.{List, [], _∷_, _++_, append-nil}
-use Prim.Native.Nat.{ℕ, zero, suc, _+_, _/_, _<_, _≤_}
+use Prim.Native.Nat.{ℕ, zero, suc, _+_, _*_, _/_, _<_, _≤_}
 use native.Mathlib.Nat.{add-zero, le-refl}
 use native.Mathlib.Numerals.{add-one}
 use native.Mathlib.Omega.{arith}
@@ -103,7 +103,7 @@ module _ (table : List ℕ) (h : judging table .number ≡ 0) (storey : ℕ) {wa
   walls-count : length walls / 8 ≡ s .count
   walls-count = omega (arith, ap length walls-are, rows-length table (s .start) (s .count) (s .fits))
 
-  pub walls-short : (row : ℕ) → row < length walls / 8 → cell walls row 5 ≤ 20000
+  walls-short : (row : ℕ) → row < length walls / 8 → cell walls row 5 ≤ 20000
   walls-short row l =
       let inside : row < s .count = omega (arith, walls-count) in
       rw (walls-are, rows-cell table (s .start) (s .count) row 5 inside (omega arith))
@@ -116,9 +116,14 @@ module _ (table : List ℕ) (h : judging table .number ≡ 0) (storey : ℕ) {wa
       held-most (sharesWhere test (share table storey walls) n)
       (omega (arith, shares-few table storey walls test n, walls-count, s .few)) (shares-small table storey walls test n (λ k l. walls-short k (omega arith)))
 
-  pub sums-within : (direction n : ℕ) {sums : Held} → n ≤ length walls / 8 → sums ≡ heldBy table storey walls direction n
+  sums-within : (direction n : ℕ) {sums : Held} → n ≤ length walls / 8 → sums ≡ heldBy table storey walls direction n
       → (sums .all ≤ mostHeld) × (sums .a ≤ mostHeld) × (sums .b ≤ mostHeld)
   sums-within direction n few e = (rw e (held-within _ n few), rw e (held-within _ n few), rw e (held-within _ n few))
+
+  -- What adding a wall asks for.
+  pub wall-ready : (direction row : ℕ) {sums : Held} → row < length walls / 8 → sums ≡ heldBy table storey walls direction row
+      → ((8 * row + 8 ≤ length walls) × (cell walls row 5 ≤ 20000)) × ((sums .all ≤ mostHeld) × (sums .a ≤ mostHeld) × (sums .b ≤ mostHeld))
+  wall-ready direction row inside e = ((omega arith, walls-short row inside), sums-within direction row (omega arith) e)
 
 module _ (table : List ℕ) (h : judging table .number ≡ 0) (storey direction : ℕ) where
   pub storey-held-most : held table storey direction ≤ mostHeld

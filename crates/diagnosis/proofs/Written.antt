@@ -97,49 +97,44 @@ module _ (sheet table lent : List ℕ) {answer : Answer} (long : length table �
         let taken = table-taken f in
         (r ∙ rw (taken, accepted), a ∙ rw (taken, accepted))
 
--- 9 is told only where the report needs more bytes than were lent, and no report needs more than 455.
-pub short-only : (sheet : List ℕ) (lent : ℕ) → diagnosing sheet lent .number ≡ lent-space-short
-    → (lent < 65 * reportLines (tableOf sheet)) × (65 * reportLines (tableOf sheet) ≤ 455)
-unfolding diagnosing reporting
-short-only sheet lent e = go (accepts (reading sheet mostNumbers)) (accepts (judging table)) refl (ltb lent needed) refl e
-  where
-    table : List ℕ
-    table = tableOf sheet
+-- The ways out of diagnosing a sheet: a refusal of reading, a refusal of judging, 9, or the count of the report's bytes. What holds of all of
+-- them holds of the answer.
+module _ (sheet : List ℕ) (lent : ℕ) where
+  abbrev needed : ℕ
+  needed = 65 * reportLines (tableOf sheet)
 
-    needed : ℕ
-    needed = 65 * reportLines table
+  by-way-out : (P : Told → Type 0) → ((reading sheet mostNumbers .number ≡ 0 → ⊥) → P (reading sheet mostNumbers))
+      → ((judging (tableOf sheet) .number ≡ 0 → ⊥) → P (judging (tableOf sheet)))
+      → (judging (tableOf sheet) .number ≡ 0 → lent < needed → P (refusal lent-space-short 0 0)) → (needed ≤ lent → P (counted needed))
+      → P (diagnosing sheet lent)
+  unfolding diagnosing reporting
+  by-way-out P unread refused short written =
+      go (accepts (reading sheet mostNumbers)) refl (accepts (judging (tableOf sheet))) refl (ltb lent needed) refl
+    where
+      go : (a : Bool) → accepts (reading sheet mostNumbers) ≡ a → (b : Bool) → accepts (judging (tableOf sheet)) ≡ b → (c : Bool) → ltb lent needed ≡ c
+          → P (cond a (cond b (cond c (refusal lent-space-short 0 0) (counted needed)) (judging (tableOf sheet))) (reading sheet mostNumbers))
+      go true r true j true l = short (eqb-true (judging (tableOf sheet) .number) 0 j) (ltb-true lent needed l)
+      go true r true j false l = written (ltb-false lent needed l)
+      go true r false j c l = refused (eqb-false (judging (tableOf sheet) .number) 0 j)
+      go false r b j c l = unread (eqb-false (reading sheet mostNumbers .number) 0 r)
 
-    go : (a b : Bool) → accepts (judging table) ≡ b → (c : Bool) → ltb lent needed ≡ c
-        → (cond a (cond b (cond c (refusal lent-space-short 0 0) (counted needed)) (judging table)) (reading sheet mostNumbers)) .number ≡ lent-space-short
-        → (lent < needed) × (needed ≤ 455)
-    go true true j true l e = (ltb-true lent needed l, omega (arith, storeys-few table (eqb-true (judging table .number) 0 j)))
-    go true true j false l e = absurd (omega arith)
-    go true false j c l e = absurd (omega (arith, judging-known table, e))
-    go false b j c l e = absurd (never-short sheet mostNumbers (le-refl mostNumbers) e)
+  -- 9 is told only where the report needs more bytes than were lent, and no report needs more than 455.
+  pub short-only : diagnosing sheet lent .number ≡ lent-space-short → (lent < needed) × (needed ≤ 455)
+  short-only =
+      by-way-out
+      (λ answer. answer .number ≡ lent-space-short → (lent < needed) × (needed ≤ 455))
+      (λ r e. absurd (never-short sheet mostNumbers (le-refl mostNumbers) e))
+      (λ j e. absurd (omega (arith, judging-known (tableOf sheet), e)))
+      (λ j l e. (l, omega (arith, storeys-few (tableOf sheet) j)))
+      (λ l e. absurd (omega arith))
 
--- The bytes that are counted are within those that were lent.
-pub diagnosed-within : (sheet : List ℕ) (lent : ℕ) {answer : Answer} {count : ℕ} → told answer ≡ diagnosing sheet lent → answer ≡ Count count → count ≤ lent
-unfolding diagnosing reporting
-diagnosed-within sheet lent {count = count} diagnosed e =
-    go
-    (accepts (reading sheet mostNumbers))
-    refl
-    (accepts (judging table))
-    refl
-    (ltb lent needed)
-    refl
-    (sym (ap told e) ∙ diagnosed)
-  where
-    table : List ℕ
-    table = tableOf sheet
-
-    needed : ℕ
-    needed = 65 * reportLines table
-
-    go : (a : Bool) → accepts (reading sheet mostNumbers) ≡ a → (b : Bool) → accepts (judging table) ≡ b → (c : Bool) → ltb lent needed ≡ c
-        → counted count ≡ cond a (cond b (cond c (refusal lent-space-short 0 0) (counted needed)) (judging table)) (reading sheet mostNumbers)
-        → count ≤ lent
-    go true r true j true l e = absurd (omega (arith, ap (λ (t : Told). t .number) e))
-    go true r true j false l e = omega (arith, ap (λ (t : Told). t .count) e, ltb-false lent needed l)
-    go true r false j c l e = absurd (eqb-false (judging table .number) 0 j (sym (ap (λ (t : Told). t .number) e)))
-    go false r b j c l e = absurd (eqb-false (reading sheet mostNumbers .number) 0 r (sym (ap (λ (t : Told). t .number) e)))
+  -- The bytes that are counted are within those that were lent.
+  pub diagnosed-within : {answer : Answer} {count : ℕ} → told answer ≡ diagnosing sheet lent → answer ≡ Count count → count ≤ lent
+  diagnosed-within {count = count} diagnosed e =
+      by-way-out
+      (λ answer. counted count ≡ answer → count ≤ lent)
+      (λ r e. absurd (r (sym (ap (λ (t : Told). t .number) e))))
+      (λ j e. absurd (j (sym (ap (λ (t : Told). t .number) e))))
+      (λ j l e. absurd (omega (arith, ap (λ (t : Told). t .number) e)))
+      (λ l e. omega (arith, ap (λ (t : Told). t .count) e))
+      (sym (ap told e) ∙ diagnosed)

@@ -3,7 +3,7 @@ use mathlib.Core.Path.{_≡_, refl, sym, ap, _∙_}
 use mathlib.Core.Bool.{not, false}
 use mathlib.Core.List.{List, [], _∷_, _++_}
 use Prim.Native.Nat.{ℕ, zero, suc, _+_, _-_, _*_, _/_, _%_, _<_, _≤_}
-use native.Mathlib.Nat.{one-mul, mul-suc}
+use native.Mathlib.Nat.{one-mul, mul-suc, add-zero, div-eq-of-lt, mod-eq-of-lt, mul-add-div, mul-add-mod-self-left}
 use native.Mathlib.Numerals.{add-one}
 use native.Mathlib.Decide.{decLt}
 use native.Mathlib.Omega.{arith}
@@ -37,19 +37,28 @@ module _ (line : List ℕ) (long : length line ≡ 65) (column : ℕ) where
         let at : column % 8 ≡ column = omega arith in
         rw (at, only-line (column / 8) (omega arith)) (ap value (sym case ∙ scanned))
 
+    -- Where it is no number, it is the line's first misprint if none stands to its left.
+    pub line-first : isNumber g ≡ false → ((k : ℕ) → k < column → misprinted line k ≡ false) → column ≡ first (misprinted line) 9
+    line-first none left = sym (first-is (misprinted line) 9 column (omega arith) left (sym line-field ∙ ap not none))
+
 pub line-last : (line : List ℕ) → length line ≡ 65 → not (eqb (getD line 64 0) 10) ≡ misprinted line 8
 unfolding misprinted
 line-last line long = rw (part-whole 65 line long)
+
+-- The row and the column of a place, where a row has so many; and of a place of the first row.
+located : (size row k : ℕ) → k < size → ((size * row + k) / size ≡ row) × ((size * row + k) % size ≡ k) × (k / size ≡ 0) × (k % size ≡ k)
+located size row k few =
+    let some : 0 < size = omega arith in
+    let only : k / size ≡ 0 = div-eq-of-lt few in
+    let same : k % size ≡ k = mod-eq-of-lt few in
+    (mul-add-div some row k ∙ rw only (add-zero row), mul-add-mod-self-left size row k ∙ same, only, same)
 
 -- A place of a sheet is one of its line's.
 pub place-of-line : (sheet : List ℕ) (row k : ℕ) → k < 9 → misprinted sheet (9 * row + k) ≡ misprinted (part 65 row sheet) k
 unfolding misprinted fieldAt
 place-of-line sheet row k few =
-    let above : (9 * row + k) / 9 ≡ row = omega arith in
-    let along : (9 * row + k) % 9 ≡ k = omega arith in
-    let only : k / 9 ≡ 0 = omega arith in
-    let same : k % 9 ≡ k = omega arith in
-    rw (above, along, only, same, part-again)
+    let at = located 9 row k few in
+    rw (at .0, at .1, at .2, at .3, part-again)
 
 -- No place is misprinted before the one that was found in a line, if none of the lines above has one.
 module _ (sheet : List ℕ) (row : ℕ) (above : (k : ℕ) → k < 9 * row → misprinted sheet k ≡ false)
@@ -90,11 +99,8 @@ field-of-line : (sheet : List ℕ) (row k : ℕ) → k < 8
     → fieldAt (part 65 row sheet) (k / 8) (k % 8) ≡ fieldAt sheet ((8 * row + k) / 8) ((8 * row + k) % 8)
 unfolding fieldAt
 field-of-line sheet row k few =
-    let above : (8 * row + k) / 8 ≡ row = omega arith in
-    let along : (8 * row + k) % 8 ≡ k = omega arith in
-    let only : k / 8 ≡ 0 = omega arith in
-    let same : k % 8 ≡ k = omega arith in
-    rw (above, along, only, same, part-again)
+    let at = located 8 row k few in
+    rw (at .0, at .1, at .2, at .3, part-again)
 
 pub numbers-by-lines : (sheet : List ℕ) (lines : ℕ) → joined lines (λ i. numbersOf 8 (part 65 i sheet)) ≡ numbersOf (8 * lines) sheet
 unfolding joined numbersOf

@@ -6,7 +6,7 @@ use denote.Ref.{now}
 use lib.ListN.{length}
 use borrow.Author.Needs.{needs}
 use Rattle.diagnosis.specs.House.{heldBy}
-use Rattle.diagnosis.proofs.Sums.{no-walls, walls-short, sums-within, sums-whole}
+use Rattle.diagnosis.proofs.Sums.{no-walls, wall-ready, sums-whole}
 use Rattle.diagnosis.proofs.Standing.{house-inside}
 use Rattle.diagnosis.proofs.strengths.held_by.Statement.{statement}
 use Rattle.diagnosis.proofs.strengths.held_by.Tie as tie
@@ -29,19 +29,15 @@ with-wall-requires : tie.Need-with-wall-requires Inv-loop μ-loop
 with-wall-requires c κs =
     let at-loop = c .before .before in
     let start = at-loop .before .before .before in
-    let n = at-loop .loop .row in
-    let short = walls-short _ (start .pre .0) (start .args .storey) (start .pre .1) n (omega arith) in
-    let small = sums-within _ (start .pre .0) (start .args .storey) (start .pre .1) 1 n (omega arith) (at-loop .loop .inv .1) in
-    ((omega arith, short), (c .share .ensures, (small, at-loop .loop .inv .1)))
+    let ready = wall-ready _ (start .pre .0) (start .args .storey) (start .pre .1) 1 _ (omega arith) (at-loop .loop .inv .1) in
+    (ready .0, (c .share .ensures, (ready .1, at-loop .loop .inv .1)))
 
 with-wall-requires-2 : tie.Need-with-wall-requires-2 Inv-loop μ-loop
 with-wall-requires-2 c κs =
     let at-loop = c .before .before .before in
     let start = at-loop .before .before .before in
-    let n = at-loop .loop .row in
-    let short = walls-short _ (start .pre .0) (start .args .storey) (start .pre .1) n (omega arith) in
-    let small = sums-within _ (start .pre .0) (start .args .storey) (start .pre .1) 2 n (omega arith) (at-loop .loop .inv .2) in
-    ((omega arith, short), (c .before .share .ensures, (small, at-loop .loop .inv .2)))
+    let ready = wall-ready _ (start .pre .0) (start .args .storey) (start .pre .1) 2 _ (omega arith) (at-loop .loop .inv .2) in
+    (ready .0, (c .before .share .ensures, (ready .1, at-loop .loop .inv .2)))
 
 add-row : tie.Need-add-row Inv-loop μ-loop
 add-row c = search needs

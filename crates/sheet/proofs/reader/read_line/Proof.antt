@@ -14,7 +14,7 @@ use Rattle.sheet.specs.Field.{field, isNumber, value}
 use Rattle.sheet.specs.Line.{joined}
 use Rattle.sheet.specs.Sheet.{over, numbersOf, misprinted}
 use Rattle.sheet.proofs.Lists.{over-whole, part-lent}
-use Rattle.sheet.proofs.Sheets.{line-field, line-number, line-last, numbers-more, numbers-length}
+use Rattle.sheet.proofs.Sheets.{line-field, line-first, line-number, line-last, numbers-more, numbers-length}
 use Rattle.sheet.proofs.reader.read_line.Statement.{statement}
 use Rattle.sheet.proofs.reader.read_line.Tie as tie
 
@@ -67,8 +67,8 @@ returns c =
     let at-loop = c .before .before .before .before .before in
     let line = now (at-loop .before .before .before .args .line) in
     let scanned = c .before .before .scan .ensures ∙ ap field (part-lent 8 (at-loop .loop .column) line) in
-    let here = line-field line (at-loop .before .before .before .pre .0) _ (omega arith) scanned (c .enum-told .given .1) in
-    (sym (first-is _ 9 _ (omega arith) (at-loop .loop .inv .3) (sym here)), λ e. absurd (omega arith))
+    let long = at-loop .before .before .before .pre .0 in
+    (line-first line long _ (omega arith) scanned (c .enum-told .given .1) refl (at-loop .loop .inv .3), λ e. absurd (omega arith))
 
 enum-told-2 : tie.Need-enum-told-2 Inv-loop μ-loop
 enum-told-2 c = search needs
@@ -82,8 +82,8 @@ returns-2 c =
     let at-loop = c .before .before .before .before .before in
     let line = now (at-loop .before .before .before .args .line) in
     let scanned = c .before .before .scan .ensures ∙ ap field (part-lent 8 (at-loop .loop .column) line) in
-    let here = line-field line (at-loop .before .before .before .pre .0) _ (omega arith) scanned (c .enum-told2 .given .1) in
-    (sym (first-is _ 9 _ (omega arith) (at-loop .loop .inv .3) (sym here)), λ e. absurd (omega arith))
+    let long = at-loop .before .before .before .pre .0 in
+    (line-first line long _ (omega arith) scanned (c .enum-told2 .given .1) refl (at-loop .loop .inv .3), λ e. absurd (omega arith))
 
 add-column : tie.Need-add-column Inv-loop μ-loop
 add-column c = search needs
@@ -115,10 +115,9 @@ same-length-3 c = search needs
 returns-3 : tie.Need-returns-3 Inv-loop μ-loop
 returns-3 c =
     let at-loop = c .before .before .before in
-    let args = at-loop .before .before .before .args in
     let all : at-loop .loop .column ≡ 8 = omega arith in
-    let right = rw all at (at-loop .loop .inv .3) in
-    (sym (first-is _ 9 8 (omega arith) right (sym (line-last _ (at-loop .before .before .before .pre .0)) ∙ ap not (ne-eqb _ 10 (c .if1 .taken)))), λ e. absurd (omega arith))
+    let wrong = sym (line-last _ (at-loop .before .before .before .pre .0)) ∙ ap not (ne-eqb _ 10 (c .if1 .taken)) in
+    (sym (first-is _ 9 8 (omega arith) (rw all at (at-loop .loop .inv .3)) wrong), λ e. absurd (omega arith))
 
 same-length-4 : tie.Need-same-length-4 Inv-loop μ-loop
 same-length-4 c = search needs
@@ -126,10 +125,14 @@ same-length-4 c = search needs
 returns-4 : tie.Need-returns-4 Inv-loop μ-loop
 returns-4 c =
     let at-loop = c .before .before .before in
-    let args = at-loop .before .before .before .args in
+    let start = at-loop .before .before .before in
     let all : at-loop .loop .column ≡ 8 = omega arith in
-    let right = rw all at (at-loop .loop .inv .3) in
-    (first-end _ 9 9 (le-refl 9) (le-refl 9) (below-more _ _ right (sym (line-last _ (at-loop .before .before .before .pre .0)) ∙ ap not (eq-eqb _ 10 (c .if1 .left)))), λ e. rw all at (at-loop .loop .inv .1) ∙ over-whole (now (args .row)) (numbersOf 8 (now (args .line))) (omega (arith, numbers-length 8 (now (args .line)), at-loop .before .before .before .pre .1)))
+    let right = sym (line-last _ (start .pre .0)) ∙ ap not (eq-eqb _ 10 (c .if1 .left)) in
+    let numbers = numbersOf 8 (now (start .args .line)) in
+    let fits : length numbers ≡ length (now (start .args .row)) = omega (arith, numbers-length 8 (now (start .args .line)), start .pre .1) in (
+      first-end _ 9 9 (le-refl 9) (le-refl 9) (below-more _ _ (rw all at (at-loop .loop .inv .3)) right),
+      λ e. rw all at (at-loop .loop .inv .1) ∙ over-whole (now (start .args .row)) numbers fits,
+    )
 
 pub read-line-spec : {M : Type 1} → statement M
 read-line-spec =
