@@ -6,14 +6,9 @@ use native.Mathlib.Nat.{div-add-mod, div-zero, mul-mod-right, mul-div-cancel-lef
 use native.Mathlib.Omega.{arith}
 use lib.Dec.{eqb, leb}
 use borrow.Author.Tests.{eqb-true, leb-true, le-leb}
-use Rattle.answer.specs.Length.{rowsIn, mostRows}
+use Rattle.answer.specs.Length.{mostRows, rowsIn, Whole}
 
--- What a length that refusal 1 does not name is made of.
-pub record Whole (unit n rows : ℕ) : Type 0 where
-  pub some : 0 < rows
-  pub most : rows ≤ mostRows
-  pub whole : unit * rows ≡ n
-
+-- A length that refusal 1 does not name.
 pub rows-whole : (unit n : ℕ) {rows : ℕ} → rows ≡ rowsIn unit n → (rows ≡ 0 → ⊥) → Whole unit n rows
 unfolding rowsIn
 rows-whole unit n e some = subst⁻¹ (Whole unit n) e (go (eqb (n % unit) 0) refl (leb (n / unit) mostRows) refl (omega arith))

@@ -1,6 +1,5 @@
--- The laws about answers that other crates cite, and the house of their examples.
+-- The laws about answers, lengths and lists that other crates cite.
 pub mod Refusals
 pub mod Places
 pub mod Lengths
 pub mod Parts
-pub mod P1

@@ -1,4 +1,6 @@
--- The definitions that promises about answers cite.
+-- The definitions that promises about answers cite, and the houses of the examples.
 pub mod Told
 pub mod First
 pub mod Length
+pub mod Text
+pub mod Houses

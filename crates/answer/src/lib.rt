@@ -3,7 +3,7 @@
 // The first layer: it uses nothing, and every other builds on it. The definition `told`
 // (specs/Told.antt) gives document 01's number and values for each case, and every promise about an
 // answer uses it. The rule of refusal 1 stands here too, since reading, writing and judging share it,
-// and P1 of document 01 (proofs/P1.antt), which the examples of every layer speak of.
+// and the houses that the examples of every layer speak of (specs/Houses.antt).
 ghost use mathlib.Core.Path.{_≡_};
 ghost use Rattle.answer.specs.Length.{rowsIn};
 

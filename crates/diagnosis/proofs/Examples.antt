@@ -10,7 +10,7 @@ use borrow.Author.Tests.{le-ltb}
 use Rattle.answer.specs.Told.{counted}
 use Rattle.answer.specs.First.{first}
 use Rattle.answer.specs.Length.{rowsIn}
-use Rattle.answer.proofs.P1.{p1}
+use Rattle.answer.specs.Houses.{p1}
 use Rattle.sheet.specs.Field.{digitAfter, after, field, isNumber, value, digitOrSpace, printed}
 use Rattle.sheet.specs.Line.{joined, part, line}
 use Rattle.sheet.specs.Sheet.{over, fieldAt, misprinted, numbersOf, reading, linesOf}

@@ -11,7 +11,7 @@ use lib.Dec.{eqb}
 use borrow.Author.Tests.{eqb-true}
 use Rattle.answer.specs.Told.{Told, counted}
 use Rattle.answer.specs.First.{first}
-use Rattle.answer.proofs.P1.{p1}
+use Rattle.answer.specs.Houses.{p1}
 use Rattle.survey.specs.Table.{cell, wallRows}
 use Rattle.survey.specs.Judgement.{within, judging}
 use Rattle.survey.proofs.Positions.{beyond}

@@ -2,7 +2,7 @@
 -- something; and a line of its report is printed as document 01 prints it. Assumes nothing.
 use mathlib.Core.Path.{_≡_, refl}
 use mathlib.Core.List.{[], _∷_}
-use Rattle.answer.proofs.P1.{p1}
+use Rattle.answer.specs.Houses.{p1}
 use Rattle.answer.specs.Told.{counted}
 use Rattle.answer.specs.First.{first}
 use Rattle.answer.specs.Length.{rowsIn}

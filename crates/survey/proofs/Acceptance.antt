@@ -14,10 +14,10 @@ use Rattle.answer.specs.declared.Answer.{Answer}
 use Rattle.answer.specs.declared.Answer.the-variants.{Count, Refused}
 use Rattle.answer.specs.Told.{Told, told, counted, refusal, sheet-length, row-out-of-order, mark-on-absent-part}
 use Rattle.answer.specs.First.{first}
-use Rattle.answer.specs.Length.{rowsIn}
+use Rattle.answer.specs.Length.{rowsIn, Whole}
 use Rattle.answer.proofs.Refusals.{passed}
 use Rattle.answer.proofs.Places.{before-first, at-first}
-use Rattle.answer.proofs.Lengths.{Whole, rows-whole, rows-counted}
+use Rattle.answer.proofs.Lengths.{rows-whole, rows-counted}
 use Rattle.survey.specs.Table.{cell, storeys, endsStorey, firstWall, wallRows, partsRow, rowsDue}
 use Rattle.survey.specs.Ranges.{zone, houseColumns, storeyColumns, endsColumns, wallColumns, partsColumns}
 use Rattle.survey.specs.Judgement.{fault, none, faulty, test, _then_, columnsFault, houseFault, storeyFault, endsFault, storeyBefore, mostWalls, wallFault, within, partsFault, rowFault, judging}

@@ -3,7 +3,8 @@ use mathlib.Core.Path.{_∙_}
 use lib.ListN.{length}
 use denote.Ref.{now}
 use native.Mathlib.Omega.{arith}
-use Rattle.answer.proofs.Lengths.{rows-whole, Whole}
+use Rattle.answer.specs.Length.{Whole}
+use Rattle.answer.proofs.Lengths.{rows-whole}
 use Rattle.sheet.proofs.Answers.{reading-length, reading-short}
 use borrow.Author.Needs.{needs}
 use Rattle.sheet.proofs.reader.read.Statement.{statement}

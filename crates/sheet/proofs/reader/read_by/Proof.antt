@@ -4,8 +4,8 @@ use Prim.Native.Nat.{ℕ, _*_, _-_, _<_}
 use lib.ListN.{take}
 use denote.Ref.{now}
 use native.Mathlib.Omega.{arith}
-use Rattle.answer.specs.Length.{rowsIn}
-use Rattle.answer.proofs.Lengths.{rows-whole, Whole}
+use Rattle.answer.specs.Length.{rowsIn, Whole}
+use Rattle.answer.proofs.Lengths.{rows-whole}
 use Rattle.answer.proofs.Places.{first-most}
 use Rattle.sheet.specs.Sheet.{misprinted, over, numbersOf}
 use Rattle.sheet.proofs.Lists.{over-front}

@@ -3,7 +3,8 @@ use mathlib.Core.Path.{_∙_}
 use native.Mathlib.Omega.{arith}
 use lib.ListN.{length}
 use denote.Ref.{now}
-use Rattle.answer.proofs.Lengths.{Whole, rows-whole}
+use Rattle.answer.specs.Length.{Whole}
+use Rattle.answer.proofs.Lengths.{rows-whole}
 use Rattle.sheet.proofs.Answers.{writing-length, writing-large, writing-short, writing-accepted}
 use Rattle.sheet.proofs.Sheets.{printing-rows}
 use borrow.Author.Needs.{needs}

@@ -7,7 +7,8 @@ use denote.Ref.{now}
 use lib.ListN.{length}
 use borrow.Author.Count.{below-none, below-more}
 use borrow.Author.Needs.{needs}
-use Rattle.answer.proofs.Lengths.{Whole, rows-whole}
+use Rattle.answer.specs.Length.{Whole}
+use Rattle.answer.proofs.Lengths.{rows-whole}
 use Rattle.survey.specs.Judgement.{faulty, rowFault, houseFault}
 use Rattle.survey.proofs.Faults.{not-faulty}
 use Rattle.survey.proofs.Cases.{row-house}
