@@ -1,26 +1,27 @@
 -- The ways out of writing a report, and of diagnosing a sheet: the answer and the lent bytes in each. Assumes nothing.
-use mathlib.Core.Path.{_≡_, refl, sym, ap, _∙_}
+use mathlib.Core.Path.{_≡_, refl, sym, ap, subst, _∙_}
 use mathlib.Core.Bool.{Bool, true, false, cond}
 use mathlib.Core.List.{List}
 use Prim.Native.Nat.{ℕ, _-_, _*_, _<_, _≤_}
 use native.Mathlib.Nat.{le-refl}
 use native.Mathlib.Omega.{arith}
-use lib.Dec.{ltb}
-use lib.ListN.{length, take}
+use lib.Dec.{T, ltb, lit≤}
+use lib.ListN.{length, take, replicate}
 use borrow.Author.Tests.{eq-eqb, ne-eqb, lt-ltb, le-ltb, eqb-true, eqb-false, ltb-true, ltb-false}
 use Rattle.answer.specs.declared.Answer.{Answer}
 use Rattle.answer.specs.declared.Answer.the-variants.{Count, Refused}
 use Rattle.answer.specs.Told.{Told, told, counted, refusal, accepts, lent-space-short}
 use Rattle.answer.specs.Length.{rowsIn}
-use Rattle.sheet.specs.Sheet.{over, reading, afterReading}
+use Rattle.sheet.specs.Line.{joined, part}
+use Rattle.sheet.specs.Sheet.{over, reading, afterReading, linesOf, afterPrinting}
 use Rattle.sheet.proofs.Lists.{over-length, over-front}
-use Rattle.sheet.proofs.Sheets.{numbers-length}
+use Rattle.sheet.proofs.Sheets.{numbers-length, line-length, lines-length, printing-rows}
 use Rattle.sheet.proofs.Answers.{Readable, accepted-readable, readable-accepted, never-short, read-refused, read-accepted}
 use Rattle.survey.specs.Judgement.{judging}
 use Rattle.survey.proofs.Numbers.{judging-known}
 use Rattle.survey.proofs.Acceptance.{judge-refused}
-use Rattle.diagnosis.specs.Program.{mostNumbers, tableOf, diagnosing, afterDiagnosing}
-use Rattle.diagnosis.specs.Report.{reportLines, reportBytes, reporting, afterReporting}
+use Rattle.diagnosis.specs.Program.{mostNumbers, tableOf, diagnosing, afterDiagnosing, mostReportBytes, output, outputBytes}
+use Rattle.diagnosis.specs.Report.{reportRows, reportLines, reportBytes, reporting, afterReporting, refusalRow, refusalLine}
 use Rattle.diagnosis.proofs.Standing.{storeys-few}
 
 -- An answer to writing a table's report into lent bytes, and these afterwards.
@@ -128,13 +129,86 @@ module _ (sheet : List ℕ) (lent : ℕ) where
       (λ j l e. (l, omega (arith, storeys-few (tableOf sheet) j)))
       (λ l e. absurd (omega arith))
 
-  -- The bytes that are counted are within those that were lent.
-  pub diagnosed-within : {answer : Answer} {count : ℕ} → told answer ≡ diagnosing sheet lent → answer ≡ Count count → count ≤ lent
-  diagnosed-within {count = count} diagnosed e =
+  -- Where it is accepted the report fits.
+  report-room : accepts (diagnosing sheet lent) ≡ true → needed ≤ lent
+  report-room =
       by-way-out
-      (λ answer. counted count ≡ answer → count ≤ lent)
-      (λ r e. absurd (r (sym (ap (λ (t : Told). t .number) e))))
-      (λ j e. absurd (j (sym (ap (λ (t : Told). t .number) e))))
-      (λ j l e. absurd (omega (arith, ap (λ (t : Told). t .number) e)))
-      (λ l e. omega (arith, ap (λ (t : Told). t .count) e))
-      (sym (ap told e) ∙ diagnosed)
+      (λ answer. accepts answer ≡ true → needed ≤ lent)
+      (λ r e. absurd (r (eqb-true (reading sheet mostNumbers .number) 0 e)))
+      (λ j e. absurd (j (eqb-true (judging (tableOf sheet) .number) 0 e)))
+      (λ j l e. absurd (subst T (sym e) tt))
+      (λ l e. l)
+
+  -- What is told is a count just where it is no refusal, and the count is the report's bytes.
+  module _ {answer : Answer} (diagnosed : told answer ≡ diagnosing sheet lent) where
+    pub diagnosed-count : {count : ℕ} → answer ≡ Count count → (accepts (diagnosing sheet lent) ≡ true) × (count ≡ needed) × (count ≤ lent)
+    diagnosed-count {count} e =
+        by-way-out
+        (λ answer. counted count ≡ answer → (accepts answer ≡ true) × (count ≡ needed) × (count ≤ lent))
+        (λ r e. absurd (r (sym (ap (λ (t : Told). t .number) e))))
+        (λ j e. absurd (j (sym (ap (λ (t : Told). t .number) e))))
+        (λ j l e. absurd (omega (arith, ap (λ (t : Told). t .number) e)))
+        (λ l e. (refl, omega (arith, ap (λ (t : Told). t .count) e), omega (arith, ap (λ (t : Told). t .count) e)))
+        (sym (ap told e) ∙ diagnosed)
+
+    pub diagnosed-refusal : {number row column : ℕ} → answer ≡ Refused number row column → accepts (diagnosing sheet lent) ≡ false
+    diagnosed-refusal {number} {row} {column} e =
+        by-way-out
+        (λ answer. refusal number row column ≡ answer → accepts answer ≡ false)
+        (λ r e. ne-eqb (reading sheet mostNumbers .number) 0 r)
+        (λ j e. ne-eqb (judging (tableOf sheet) .number) 0 j)
+        (λ j l e. refl)
+        (λ l e. absurd (omega (arith, ap (λ (t : Told). t .count) e)))
+        (sym (ap told e) ∙ diagnosed)
+
+-- One row printed.
+refusal-line : (number row column : ℕ) → linesOf 1 (refusalRow number row column) ≡ refusalLine number row column
+unfolding linesOf joined part refusalLine
+refusal-line number row column = refl
+
+refusal-length : (number row column : ℕ) → length (refusalLine number row column) ≡ 65
+unfolding refusalLine
+refusal-length number row column = line-length (refusalRow number row column)
+
+-- The two ways out of what the program prints: an answer, the bytes and how many of them are printed.
+abbrev Output : List ℕ → Told → List ℕ → ℕ → Type 0
+Output sheet answer bytes count =
+    (answer ≡ diagnosing sheet mostReportBytes) × ((bytes ≡ outputBytes sheet) × (count ≡ length (output sheet)))
+
+module _ (sheet : List ℕ) {answer : Answer} (diagnosed : told answer ≡ diagnosing sheet mostReportBytes)
+    {after : List ℕ} (written : after ≡ afterDiagnosing sheet (replicate mostReportBytes 0)) where
+  pub output-report : {count : ℕ} → answer ≡ Count count → Output sheet (counted count) after count
+  unfolding output outputBytes afterDiagnosing reportBytes
+  output-report e =
+      let counts = diagnosed-count sheet mostReportBytes diagnosed e in
+      (sym (ap told e) ∙ diagnosed, (written ∙ rw (counts .0), rw (counts .0) (counts .1 ∙ sym (lines-length _ _))))
+
+  pub output-refusal : {number row column : ℕ} {bytes : List ℕ} → answer ≡ Refused number row column
+      → bytes ≡ afterPrinting (refusalRow number row column) after → Output sheet (refusal number row column) bytes 65
+  unfolding output outputBytes afterDiagnosing
+  output-refusal {number} {row} {column} e printed =
+      let refused = diagnosed-refusal sheet mostReportBytes diagnosed e in
+      let tells = sym (ap told e) ∙ diagnosed in
+      let blank : List ℕ = replicate mostReportBytes 0 in
+      let line = printing-rows (refusalRow number row column) blank 1 refl (lit≤ tt) ∙ ap (over blank) (refusal-line number row column) in (
+        tells,
+        (printed ∙ rw (written, refused) (line ∙ rw (← tells)), rw (refused, ← tells) (sym (refusal-length number row column))),
+      )
+
+-- No more is printed than the longest report has.
+pub output-most : (sheet : List ℕ) → length (output sheet) ≤ mostReportBytes
+unfolding output reportBytes
+output-most sheet = go (accepts (diagnosing sheet mostReportBytes)) refl
+  where
+    answer : Told
+    answer = diagnosing sheet mostReportBytes
+
+    go : (b : Bool) → accepts answer ≡ b
+        → length (cond b (reportBytes (tableOf sheet)) (refusalLine (answer .number) (answer .row) (answer .column))) ≤ mostReportBytes
+    go true e = omega (arith, lines-length (reportLines (tableOf sheet)) (reportRows (tableOf sheet)), report-room sheet mostReportBytes e)
+    go false e = omega (arith, refusal-length (answer .number) (answer .row) (answer .column))
+
+-- So what is printed is a part of the bytes, for whoever prints it.
+pub output-within : {bytes : List ℕ} {count : ℕ} (sheet : List ℕ) → (bytes ≡ outputBytes sheet) × (count ≡ length (output sheet)) → count ≤ length bytes
+unfolding outputBytes
+output-within sheet told = rw (told .0, told .1, over-length (replicate {A = ℕ} mostReportBytes 0) (output sheet) (output-most sheet)) (output-most sheet)

@@ -2,11 +2,11 @@
 use mathlib.Core.Bool.{cond}
 use mathlib.Core.List.{List}
 use Prim.Native.Nat.{ℕ, _*_}
-use lib.ListN.{length}
+use lib.ListN.{length, replicate}
 use Rattle.answer.specs.Told.{Told, accepts}
 use Rattle.answer.specs.Length.{mostRows, rowsIn}
 use Rattle.sheet.specs.Sheet.{over, numbersOf, reading}
-use Rattle.diagnosis.specs.Report.{reportBytes, reporting}
+use Rattle.diagnosis.specs.Report.{reportBytes, reporting, refusalLine}
 
 -- The program reads into a table of its own, as long as the longest.
 abbrev pub mostNumbers : ℕ
@@ -23,3 +23,19 @@ diagnosing sheet lent = cond (accepts (reading sheet mostNumbers)) (reporting (t
 -- The lent bytes afterwards.
 unfoldable pub afterDiagnosing : List ℕ → List ℕ → List ℕ
 afterDiagnosing sheet report = cond (accepts (diagnosing sheet (length report))) (over report (reportBytes (tableOf sheet))) report
+
+-- What the program prints
+
+-- The longest report has seven lines, so with so many bytes lent 9 is never told.
+abbrev pub mostReportBytes : ℕ
+mostReportBytes = 65 * 7
+
+-- "The scoring program reads a sheet on standard input and prints" its report; "for a refused sheet it prints one line alone".
+unfoldable pub output : List ℕ → List ℕ
+output sheet =
+    let answer = diagnosing sheet mostReportBytes in
+    cond (accepts answer) (reportBytes (tableOf sheet)) (refusalLine (answer .number) (answer .row) (answer .column))
+
+-- So many bytes of which the first are what is printed, and the others 0.
+unfoldable pub outputBytes : List ℕ → List ℕ
+outputBytes sheet = over (replicate mostReportBytes 0) (output sheet)

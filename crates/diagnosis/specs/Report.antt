@@ -75,5 +75,8 @@ unfoldable pub afterReporting : List ℕ → List ℕ → List ℕ
 afterReporting table report = cond (accepts (reporting table (length report))) (over report (reportBytes table)) report
 
 -- "For a refused sheet it prints one line alone: 0; refusal number; row; column; four 0s."
+abbrev pub refusalRow : ℕ → ℕ → ℕ → List ℕ
+refusalRow number row column = 0 ∷ number ∷ row ∷ column ∷ 0 ∷ 0 ∷ 0 ∷ 0 ∷ []
+
 unfoldable pub refusalLine : ℕ → ℕ → ℕ → List ℕ
-refusalLine number row column = line (0 ∷ number ∷ row ∷ column ∷ 0 ∷ 0 ∷ 0 ∷ 0 ∷ [])
+refusalLine number row column = line (refusalRow number row column)

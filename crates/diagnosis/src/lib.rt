@@ -13,9 +13,10 @@ mod reports;
 mod scores;
 mod strengths;
 
+pub use program::Output;
 pub use program::diagnose;
+pub use program::output_of;
 pub use reports::MOST_REPORT_BYTES;
-pub use reports::refusal_line;
 pub use reports::report;
 pub use scores::Outcome;
 pub use scores::Record;

@@ -12,7 +12,6 @@ use answer::ROW;
 use method::Fraction;
 use method::verdict;
 use sheet::LINE;
-use sheet::print_line;
 use sheet::print_rows;
 use survey::judge;
 ghost use mathlib.Core.Path.{_≡_};
@@ -26,7 +25,7 @@ ghost use Rattle.method.specs.Required.{mostRequired};
 ghost use Rattle.survey.specs.Table.{storeys};
 ghost use Rattle.survey.specs.Judgement.{judging};
 ghost use Rattle.diagnosis.specs.House.{leastScore};
-ghost use Rattle.diagnosis.specs.Report.{resultRow, resultRows, verdictRow, reportLines, reportBytes, reporting, afterReporting, refusalLine};
+ghost use Rattle.diagnosis.specs.Report.{resultRow, resultRows, verdictRow, reportLines, reportBytes, reporting, afterReporting, refusalRow};
 
 // 0.01 kN in the units of held and of required strength.
 const HELD_UNIT: u64 = 10_000;
@@ -163,9 +162,9 @@ pub fn report(table: &[u32], report: &mut [u8]) -> Answer
     }
 }
 
-// The line of a refusal, by value. Of a number over 99,999,999 the last eight digits are printed.
-pub fn refusal_line(number: u32, row: u32, column: u32) -> [u8; 65]
-    ensures { λ r. ⌜ r ≡ refusalLine number row column ⌝ }
+// The row of a refusal.
+pub(crate) fn refusal_row(number: u32, row: u32, column: u32) -> [u32; 8]
+    ensures { λ r. ⌜ r ≡ refusalRow number row column ⌝ }
 {
-    print_line([0, number, row, column, 0, 0, 0, 0])
+    [0, number, row, column, 0, 0, 0, 0]
 }

@@ -8,23 +8,16 @@ use answer::Answer;
 use diagnosis::MOST_REPORT_BYTES;
 use libc::STDOUT_FILENO;
 
-// Prints a sheet's report, or the refusal's line, and answers the count of the report's bytes.
+// Prints what the scoring program prints for a sheet, and answers the count of the report's bytes.
 fn print_diagnosis(sheet: &[u8]) -> usize {
-    let mut report = [0u8; MOST_REPORT_BYTES];
-    match diagnosis::diagnose(sheet, &mut report) {
-        Answer::Count(count) => {
-            let length = io::count(count as isize, &report);
-            io::write_all(STDOUT_FILENO, &report[..length]);
-            length
-        }
-        Answer::Refused {
-            number,
-            row,
-            column,
-        } => {
-            io::write_all(STDOUT_FILENO, &diagnosis::refusal_line(number, row, column));
-            0
-        }
+    let output = diagnosis::output_of(sheet);
+    let bytes = output.bytes;
+    let length = output.length;
+    io::write_all(STDOUT_FILENO, &bytes[0..length]);
+    let answer = output.answer;
+    match answer {
+        Answer::Count(_) => length,
+        Answer::Refused { .. } => 0,
     }
 }
 
