@@ -1,8 +1,8 @@
 // The text format: a sheet read into a lent table, and a table written as a sheet.
 //
 // Uses `answer` alone. Document 01, "The sheet and the table" and "What a refused sheet is told";
-// the definitions stand in specs/Field.antt, Line.antt and Sheet.antt, in that order. The two
-// round-trip theorems are in proofs/RoundTrip.antt.
+// the definitions stand in specs/Field.antt, Line.antt and Sheet.antt, in that order. The theorems,
+// the round trip among them, are in proofs/Theorems.antt.
 mod field;
 mod line;
 mod reader;
