@@ -33,8 +33,8 @@ fn refused(number: u32) -> Answer
 
 // The refusal at a place that counts from 0, row by row of so many columns.
 fn refused_at(number: u32, at: usize, columns: usize) -> Answer
-    requires { ⌜ at < 4096 ⌝ }
-    requires { ⌜ 0 < columns ⌝ }
+    requires at { ⌜ at < 4096 ⌝ }
+    requires columns { ⌜ 0 < columns ⌝ }
     ensures { λ r. ⌜ told r ≡ refusalAt number columns at ⌝ }
 {
     let row = at / columns;
