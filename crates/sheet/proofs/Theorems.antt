@@ -52,15 +52,15 @@ written-rest = round-trip.written-rest
 
 -- The round trip. A sheet that was read into any table is, when the rows that were read are written again, the same sheet, byte for
 -- byte; the count is its length, and the bytes after it stay.
-pub read-then-write : (sheet table bytes : List ℕ) → reading sheet (length table) .number ≡ 0 → length sheet ≤ length bytes
-    → (writing (rowsRead sheet table) (length bytes) ≡ counted (length sheet))
-    × (afterWriting (rowsRead sheet table) bytes ≡ sheet ++ drop (length sheet) bytes)
+pub read-then-write : (sheet table lent : List ℕ) → reading sheet (length table) .number ≡ 0 → length sheet ≤ length lent
+    → (writing (rowsRead sheet table) (length lent) ≡ counted (length sheet))
+    × (afterWriting (rowsRead sheet table) lent ≡ sheet ++ drop (length sheet) lent)
 read-then-write = round-trip.read-then-write
 
 -- Where fewer bytes are lent than the sheet has, refusal 9 is due, and no byte changes.
-pub read-then-short : (sheet table bytes : List ℕ) → reading sheet (length table) .number ≡ 0 → length bytes < length sheet
-    → (writing (rowsRead sheet table) (length bytes) ≡ refusal lent-space-short 0 0)
-    × (afterWriting (rowsRead sheet table) bytes ≡ bytes)
+pub read-then-short : (sheet table lent : List ℕ) → reading sheet (length table) .number ≡ 0 → length lent < length sheet
+    → (writing (rowsRead sheet table) (length lent) ≡ refusal lent-space-short 0 0)
+    × (afterWriting (rowsRead sheet table) lent ≡ lent)
 read-then-short = round-trip.read-then-short
 
 -- A table that was written into any bytes is, when the bytes that were written are read again, the same table, number for number;
