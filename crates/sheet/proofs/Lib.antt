@@ -1,7 +1,8 @@
--- The laws about fields, lines and sheets, and the round-trip theorems, for other crates too.
+-- The laws about fields, lines and sheets, for other crates too, and last the theorems on one page.
 pub mod Fields
 pub mod Lists
 pub mod Sheets
 pub mod Answers
 pub mod RoundTrip
 pub mod Examples
+pub mod Theorems

@@ -13,7 +13,7 @@ use Rattle.answer.specs.Told.{Told, counted, refusal, lent-space-short}
 use Rattle.answer.specs.Length.{rowsIn}
 use Rattle.sheet.specs.Field.{field, isNumber, value, printed}
 use Rattle.sheet.specs.Line.{joined, part, line}
-use Rattle.sheet.specs.Sheet.{over, fieldAt, misprinted, numbersOf, reading, afterReading, linesOf, tooLarge, writing, afterWriting}
+use Rattle.sheet.specs.Sheet.{over, fieldAt, misprinted, numbersOf, reading, afterReading, linesOf, tooLarge, writing, afterWriting, rowsRead, bytesWritten}
 use Rattle.sheet.specs.declared.field.Field.{Field}
 use Rattle.sheet.specs.declared.field.Field.the-variants.{Blank, Number, Misprint}
 use Rattle.sheet.proofs.Fields.{field-below, field-printed, printed-field}
@@ -169,13 +169,7 @@ module _ (table : List ℕ) (rows : ℕ) (writable : Writable table rows) where
         right = written-right;
       }
 
--- The rows that reading a sheet into a table wrote, and the bytes that writing a table into a sheet wrote: as many as were counted.
-abbrev pub rowsRead : List ℕ → List ℕ → List ℕ
-rowsRead sheet table = take (8 * reading sheet (length table) .count) (afterReading sheet table)
-
-abbrev pub bytesWritten : List ℕ → List ℕ → List ℕ
-bytesWritten table sheet = take (writing table (length sheet) .count) (afterWriting table sheet)
-
+-- The rows that were read, and the bytes that were written, are the definitions' own.
 rows-read : (sheet table : List ℕ) → reading sheet (length table) .number ≡ 0
     → rowsRead sheet table ≡ numbersOf (8 * rowsIn 65 (length sheet)) sheet
 unfolding over

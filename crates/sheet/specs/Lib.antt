@@ -1,4 +1,4 @@
--- The definitions that the sheet's promises cite, in document 01's order: a field, a line, a sheet.
+-- The definitions that the sheet's promises and theorems cite, in document 01's order: a field, a line, a sheet.
 pub mod Field
 pub mod Line
 pub mod Sheet

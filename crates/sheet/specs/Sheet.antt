@@ -3,7 +3,7 @@
 use Prim.Native.Nat.{ℕ, _+_, _*_, _/_, _%_}
 use mathlib.Core.Bool.{Bool, cond, not}
 use mathlib.Core.List.{List, [], _∷_, _++_}
-use lib.ListN.{length, getD, drop}
+use lib.ListN.{length, getD, take, drop}
 use lib.Dec.{eqb, ltb}
 use Rattle.answer.specs.Told.{Told, counted, refusal, accepts, sheet-length, misprint, out-of-range, lent-space-short}
 use Rattle.answer.specs.First.{first}
@@ -79,3 +79,13 @@ writing table lent =
 unfoldable pub afterWriting : List ℕ → List ℕ → List ℕ
 afterWriting table sheet =
     cond (accepts (writing table (length sheet))) (over sheet (linesOf (rowsIn 8 (length table)) table)) sheet
+
+-- Reading and writing again. Document 01: "reports how many rows it wrote", "reports the bytes written".
+
+-- The rows that reading a sheet into a table wrote: as many as it counted, from the table's front.
+abbrev pub rowsRead : List ℕ → List ℕ → List ℕ
+rowsRead sheet table = take (8 * reading sheet (length table) .count) (afterReading sheet table)
+
+-- The bytes that writing a table into a sheet wrote: as many as it counted, from the sheet's front.
+abbrev pub bytesWritten : List ℕ → List ℕ → List ℕ
+bytesWritten table sheet = take (writing table (length sheet) .count) (afterWriting table sheet)

@@ -1,8 +1,8 @@
 // The text format: a sheet read into a lent table, and a table written as a sheet.
 //
 // Uses `answer` alone. Document 01, "The sheet and the table" and "What a refused sheet is told";
-// the definitions stand in specs/Field.antt, Line.antt and Sheet.antt, in that order. The two
-// round-trip theorems are in proofs/RoundTrip.antt.
+// the definitions stand in specs/Field.antt, Line.antt and Sheet.antt, in that order. The theorems,
+// the round trip among them, are in proofs/Theorems.antt.
 mod field;
 mod line;
 mod reader;
@@ -33,8 +33,8 @@ fn refused(number: u32) -> Answer
 
 // The refusal at a place that counts from 0, row by row of so many columns.
 fn refused_at(number: u32, at: usize, columns: usize) -> Answer
-    requires { ⌜ at < 4096 ⌝ }
-    requires { ⌜ 0 < columns ⌝ }
+    requires at { ⌜ at < 4096 ⌝ }
+    requires columns { ⌜ 0 < columns ⌝ }
     ensures { λ r. ⌜ told r ≡ refusalAt number columns at ⌝ }
 {
     let row = at / columns;

@@ -11,8 +11,8 @@ pub const ROW: usize = answer::ROW;
 
 // Prints eight numbers over the 65 bytes of a line.
 pub(crate) fn print_row(row: &[u32], bytes: &mut [u8])
-    requires { ⌜ length (now row) ≡ 8 ⌝ }
-    requires { ⌜ length (now bytes) ≡ 65 ⌝ }
+    requires row { ⌜ length (now row) ≡ 8 ⌝ }
+    requires bytes { ⌜ length (now bytes) ≡ 65 ⌝ }
     ensures { λ _. ⌜ now (bytes .exit) ≡ line (now (row .entry)) ⌝ }
 {
     let mut column = 0;

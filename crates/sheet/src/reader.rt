@@ -24,10 +24,10 @@ const PLACES: usize = 9;
 
 // Reads one line into the numbers of a row: its first misprinted place from the left, or 9.
 fn read_line(line: &[u8], row: &mut [u32]) -> usize
-    requires { ⌜ length (now line) ≡ 65 ⌝ }
-    requires { ⌜ length (now row) ≡ 8 ⌝ }
-    ensures { λ r. ⌜ r ≡ first (misprinted (now (line .entry))) 9 ⌝ }
-    ensures { λ r. ⌜ (r ≡ 9 → now (row .exit) ≡ numbersOf 8 (now (line .entry))) ⌝ }
+    requires line { ⌜ length (now line) ≡ 65 ⌝ }
+    requires row { ⌜ length (now row) ≡ 8 ⌝ }
+    ensures answer { λ r. ⌜ r ≡ first (misprinted (now (line .entry))) 9 ⌝ }
+    ensures row { λ r. ⌜ (r ≡ 9 → now (row .exit) ≡ numbersOf 8 (now (line .entry))) ⌝ }
 {
     let mut column = 0;
     while column < ROW {
@@ -48,10 +48,10 @@ fn read_line(line: &[u8], row: &mut [u32]) -> usize
 // Reads so many lines into a table, down to the first misprint: its place, of nine a line, or the count
 // of places.
 fn read_lines(sheet: &[u8], lines: usize, table: &mut [u32]) -> usize
-    requires { ⌜ 65 * lines ≤ length (now sheet) ⌝ }
-    requires { ⌜ 8 * lines ≤ length (now table) ⌝ }
-    ensures { λ r. ⌜ r ≡ first (misprinted (now (sheet .entry))) (9 * lines) ⌝ }
-    ensures { λ r. ⌜ (r ≡ 9 * lines → now (table .exit) ≡ over (now (table .entry)) (numbersOf (8 * lines) (now (sheet .entry)))) ⌝ }
+    requires sheet { ⌜ 65 * lines ≤ length (now sheet) ⌝ }
+    requires table { ⌜ 8 * lines ≤ length (now table) ⌝ }
+    ensures answer { λ r. ⌜ r ≡ first (misprinted (now (sheet .entry))) (9 * lines) ⌝ }
+    ensures table { λ r. ⌜ (r ≡ 9 * lines → now (table .exit) ≡ over (now (table .entry)) (numbersOf (8 * lines) (now (sheet .entry)))) ⌝ }
 {
     let mut row = 0;
     while row < lines {
@@ -80,10 +80,10 @@ fn put_numbers(numbers: &[u32], table: &mut [u32])
 
 // Reads so many lines by way of numbers of one's own, since a refusal changes none of the lent table.
 fn read_by(sheet: &[u8], lines: usize, numbers: &mut [u32], table: &mut [u32]) -> Answer
-    requires { ⌜ (lines ≡ rowsIn 65 (length (now sheet))) × (0 < lines) × (8 * lines ≤ length (now table)) ⌝ }
-    requires { ⌜ length (now numbers) ≡ 8 * mostRows ⌝ }
-    ensures { λ r. ⌜ told r ≡ reading (now (sheet .entry)) (length (now (table .entry))) ⌝ }
-    ensures { λ _. ⌜ now (table .exit) ≡ afterReading (now (sheet .entry)) (now (table .entry)) ⌝ }
+    requires lines { ⌜ (lines ≡ rowsIn 65 (length (now sheet))) × (0 < lines) × (8 * lines ≤ length (now table)) ⌝ }
+    requires numbers { ⌜ length (now numbers) ≡ 8 * mostRows ⌝ }
+    ensures answer { λ r. ⌜ told r ≡ reading (now (sheet .entry)) (length (now (table .entry))) ⌝ }
+    ensures table { λ _. ⌜ now (table .exit) ≡ afterReading (now (sheet .entry)) (now (table .entry)) ⌝ }
 {
     let at = read_lines(sheet, lines, numbers);
     if at < PLACES * lines {
@@ -96,8 +96,8 @@ fn read_by(sheet: &[u8], lines: usize, numbers: &mut [u32], table: &mut [u32]) -
 // Reads a sheet into a lent table: the count of rows written, or the refusal. Numbers after them
 // stay, and a refusal changes none.
 pub fn read(sheet: &[u8], table: &mut [u32]) -> Answer
-    ensures { λ r. ⌜ told r ≡ reading (now (sheet .entry)) (length (now (table .entry))) ⌝ }
-    ensures { λ _. ⌜ now (table .exit) ≡ afterReading (now (sheet .entry)) (now (table .entry)) ⌝ }
+    ensures answer { λ r. ⌜ told r ≡ reading (now (sheet .entry)) (length (now (table .entry))) ⌝ }
+    ensures table { λ _. ⌜ now (table .exit) ≡ afterReading (now (sheet .entry)) (now (table .entry)) ⌝ }
 {
     let lines = rows_in(sheet.len(), LINE);
     if lines == 0 {

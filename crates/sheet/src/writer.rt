@@ -54,8 +54,8 @@ pub fn print_rows(table: &[u32], sheet: &mut [u8])
 // Writes a table into lent bytes as a sheet: the count of bytes written, or the refusal. Bytes
 // after them stay, and a refusal changes none.
 pub fn write(table: &[u32], sheet: &mut [u8]) -> Answer
-    ensures { λ r. ⌜ told r ≡ writing (now (table .entry)) (length (now (sheet .entry))) ⌝ }
-    ensures { λ _. ⌜ now (sheet .exit) ≡ afterWriting (now (table .entry)) (now (sheet .entry)) ⌝ }
+    ensures answer { λ r. ⌜ told r ≡ writing (now (table .entry)) (length (now (sheet .entry))) ⌝ }
+    ensures sheet { λ _. ⌜ now (sheet .exit) ≡ afterWriting (now (table .entry)) (now (sheet .entry)) ⌝ }
 {
     let rows = rows_in(table.len(), ROW);
     if rows == 0 {

@@ -11,9 +11,9 @@ use borrow.Author.Tests.{eq-eqb, eqb-false, ltb-true, ltb-false}
 use Rattle.answer.specs.Told.{Told, told, counted, refusal, accepts, lent-space-short}
 use Rattle.answer.specs.declared.Answer.{Answer}
 use Rattle.answer.specs.declared.Answer.the-variants.{Count, Refused}
-use Rattle.sheet.specs.Sheet.{reading, afterReading, writing, afterWriting}
+use Rattle.sheet.specs.Sheet.{reading, afterReading, writing, afterWriting, rowsRead}
 use Rattle.sheet.proofs.Answers.{accepted-count, read-refused, read-accepted}
-use Rattle.sheet.proofs.RoundTrip.{rowsRead, read-then-write, read-then-short}
+use Rattle.sheet.proofs.RoundTrip.{read-then-write, read-then-short}
 use Rattle.sheets.specs.Again.{again, afterAgain}
 
 module _ (sheet table : List ℕ) {answer : Answer} (read : told answer ≡ reading sheet (length table)) where

@@ -18,8 +18,8 @@ const BYTES: usize = (answer::MOST_ROWS + 1) * sheet::LINE;
 
 // Reads a sheet into the table and writes the rows that were read into the bytes.
 fn again(sheet: &[u8], table: &mut [u32], bytes: &mut [u8]) -> Answer
-    ensures { λ r. ⌜ told r ≡ again (now (sheet .entry)) (length (now (table .entry))) (length (now (bytes .entry))) ⌝ }
-    ensures { λ _. ⌜ now (bytes .exit) ≡ afterAgain (now (sheet .entry)) (length (now (table .entry))) (now (bytes .entry)) ⌝ }
+    ensures answer { λ r. ⌜ told r ≡ again (now (sheet .entry)) (length (now (table .entry))) (length (now (bytes .entry))) ⌝ }
+    ensures bytes { λ _. ⌜ now (bytes .exit) ≡ afterAgain (now (sheet .entry)) (length (now (table .entry))) (now (bytes .entry)) ⌝ }
 {
     let read = sheet::read(sheet, table);
     match read {

@@ -78,14 +78,15 @@ returns-2 c =
     let at-lines = at-if1 .before .before .before in
     let at-entry = at-lines .before .before .before .before .before in
     let sheet = now (at-entry .args .sheet) in
+    let table = now (at-entry .args .table) in
     let lines = at-entry .args .lines in
     let pre = at-entry .pre .0 in
     let found = at-lines .read-lines .ensures .0 in
-    let case = reading-accepted sheet _ (pre .0) (λ none. omega arith) (pre .2) found (at-if1 .if1 .left) in
+    let case = reading-accepted sheet table (pre .0) (λ none. omega arith) (pre .2) found (at-if1 .if1 .left) in
     let all : at-lines .read-lines .result ≡ 9 * lines = omega (arith, found, first-most (misprinted sheet) (9 * lines), at-if1 .if1 .left) in
     let read = at-lines .read-lines .ensures .1 all in
     let front = ap (take (8 * lines - 0)) read ∙ over-front _ (numbersOf (8 * lines) sheet) (8 * lines) (numbers-length (8 * lines) sheet) in
-    (case .0, c .before .before .put-numbers .ensures ∙ ap (over (now (at-entry .args .table))) front ∙ case .1)
+    (case .0, c .before .before .put-numbers .ensures ∙ ap (over table) front ∙ case .1)
 
 pub read-by-spec : {M : Type 1} → statement M
 read-by-spec =

@@ -127,9 +127,10 @@ returns-4 c =
     let at-loop = c .before .before .before in
     let start = at-loop .before .before .before in
     let all : at-loop .loop .column ≡ 8 = omega arith in
-    let right = sym (line-last _ (start .pre .0)) ∙ ap not (eq-eqb _ 10 (c .if1 .left)) in
-    let numbers = numbersOf 8 (now (start .args .line)) in
-    let fits : length numbers ≡ length (now (start .args .row)) = omega (arith, numbers-length 8 (now (start .args .line)), start .pre .1) in (
+    let line = now (start .args .line) in
+    let right : misprinted line 8 ≡ false = sym (line-last line (start .pre .0)) ∙ ap not (eq-eqb _ 10 (c .if1 .left)) in
+    let numbers = numbersOf 8 line in
+    let fits : length numbers ≡ length (now (start .args .row)) = omega (arith, numbers-length 8 line, start .pre .1) in (
       first-end _ 9 9 (le-refl 9) (le-refl 9) (below-more _ _ (rw all at (at-loop .loop .inv .3)) right),
       λ e. rw all at (at-loop .loop .inv .1) ∙ over-whole (now (start .args .row)) numbers fits,
     )
