@@ -1,6 +1,6 @@
 -- Demand 3: a house made worse scores no better. Assumes nothing.
 use mathlib.Core.Path.{_≡_, refl, sym, ap, fun-ext, _∙_}
-use mathlib.Core.Bool.{false, _||_, and-false}
+use mathlib.Core.Bool.{false, and-false}
 use mathlib.Core.List.{List}
 use Prim.Native.Nat.{ℕ, zero, suc, _+_, _-_, _*_, _/_, _%_, _<_, _≤_}
 use native.Mathlib.Nat.{le-refl, le-of-eq}
@@ -24,7 +24,7 @@ use Rattle.method.proofs.Fractions.{_at-most_, deterioration-falls}
 use Rattle.method.proofs.Comparisons.{score-before-falls, full-score-falls, verdict-rises}
 use Rattle.diagnosis.specs.House.{ground, foundation, present, marked, endA, endB, share, heldWhere, held, endHeld, requiredOf, required, endRequired, endBand, higherBand, storeyFloorType, layout, deterioration, scoreBefore, fullScore, scores, leastScore, houseVerdict}
 use Rattle.diagnosis.specs.Answers.{recordOf}
-use Rattle.diagnosis.specs.Comparison.{mayDiffer, Worse, InHouse, Kept, NoBetter}
+use Rattle.diagnosis.specs.Comparison.{houseMayDiffer, partsMayDiffer, mayDiffer, Worse, InHouse, Kept, NoBetter}
 use Rattle.diagnosis.proofs.Listed.{scores-length, score-at, record-score, record-told, least-falls, in-house-at}
 use Rattle.diagnosis.proofs.Standing.{storeys-few}
 use Rattle.diagnosis.proofs.Within.{lower-some}
@@ -37,7 +37,7 @@ module _ (A B : List ℕ) (w : Worse A B) where
   b = accepted B (w .B-accepted)
 
   -- What is the same in both: every column that may differ in no row,
-  column-same : (row column : ℕ) → column < 8 → (eqb column 2 || eqb column 3 || eqb column 4 || eqb column 6) ≡ false → eqb column 2 ≡ false
+  column-same : (row column : ℕ) → column < 8 → houseMayDiffer column ≡ false → partsMayDiffer column ≡ false
       → cell A row column ≡ cell B row column
   unfolding mayDiffer
   column-same row column inside house parts =
@@ -94,7 +94,7 @@ module _ (A B : List ℕ) (w : Worse A B) where
   unfolding deterioration within
   worn =
       rw (← present-same)
-      (deterioration-falls (present A) (marked A) (marked B) (eqb-true (bitAnd (marked A) (marked B)) (marked A) (w .marks)) (w .older))
+      (deterioration-falls (present A) (marked A) (marked B) (eqb-true (bitAnd (marked A) (marked B)) (marked A) (w .marks)) (omega (arith, w .older)))
 
   module _ (storey direction : ℕ) (s : InHouse A storey direction) where
     storey-same : (column : ℕ) → column < 8 → cell A storey column ≡ cell B storey column
@@ -115,8 +115,8 @@ module _ (A B : List ℕ) (w : Worse A B) where
     required-of-rises : (parts area : ℕ) → storey ≤ parts → parts ≤ 3 → requiredOf A storey parts area ≤ requiredOf B storey parts area
     unfolding requiredOf
     required-of-rises parts area most few =
-        required-rises (s .some-storey) most few (a .house-inside 2 (omega arith) .0) (w .heavier) (b .house-inside 2 (omega arith) .1)
-        (le-refl area) (w .higher) (w .softer) (le-of-eq narrow-same)
+        required-rises (s .some-storey) most few (a .house-inside 2 (omega arith) .0) (omega (arith, w .heavier)) (b .house-inside 2 (omega arith) .1)
+        (le-refl area) (omega (arith, w .higher)) (omega (arith, w .softer)) (le-of-eq narrow-same)
 
     storey-required : required A storey ≤ required B storey
     unfolding required

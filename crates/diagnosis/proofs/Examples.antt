@@ -1,16 +1,14 @@
--- Document 01's houses worked through, from P1's sheet to its report, and two pairs of houses that demand 3 compares, by computation. Assumes
--- nothing.
+-- Document 01's houses worked through, from P1's sheet to its report, by computation. Assumes nothing.
 use mathlib.Core.Path.{_≡_, refl}
 use mathlib.Core.List.{List, [], _∷_}
-use Prim.Native.Nat.{ℕ, zero, suc, _≤_}
+use Prim.Native.Nat.{ℕ}
 use native.Mathlib.Nat.{le-refl}
-use native.Mathlib.Omega.{arith}
-use lib.ListN.{set, replicate}
+use lib.ListN.{replicate}
 use borrow.Author.Tests.{le-ltb}
 use Rattle.answer.specs.Told.{counted}
 use Rattle.answer.specs.First.{first}
 use Rattle.answer.specs.Length.{rowsIn}
-use Rattle.answer.specs.Houses.{p1}
+use Rattle.answer.specs.Houses.{p1Sheet, p1, twoStoreys}
 use Rattle.sheet.specs.Field.{digitAfter, after, field, isNumber, value, digitOrSpace, printed}
 use Rattle.sheet.specs.Line.{joined, part, line}
 use Rattle.sheet.specs.Sheet.{over, fieldAt, misprinted, numbersOf, reading, linesOf}
@@ -26,69 +24,10 @@ use Rattle.method.specs.LayoutFactor.{reached, band, floorType, layoutFactor}
 use Rattle.method.specs.Deterioration.{points, countedMarks, factorOf, deteriorationFactor}
 use Rattle.method.specs.Score.{score, verdict}
 use Rattle.method.proofs.Examples.{worked, expected, worked-out}
-use Rattle.diagnosis.specs.House.{zone, age, marked, share, sharesWhere, heldWhere, inDirection, solidAtEnd, held, endHeld, requiredOf, required, endRequired, endBand, higherBand, storeyFloorType, layout, deterioration, fullScore, scores, leastOf, leastScore}
+use Rattle.diagnosis.specs.House.{share, sharesWhere, heldWhere, inDirection, solidAtEnd, held, endHeld, requiredOf, required, endRequired, endBand, higherBand, storeyFloorType, layout, deterioration, scoreBefore, fullScore, scores, leastOf, leastScore}
 use Rattle.diagnosis.specs.Report.{resultRows, reportRows, reportBytes, reporting}
-use Rattle.diagnosis.specs.Program.{mostNumbers, tableOf, diagnosing, afterDiagnosing}
-
--- P1's sheet, line by line.
-abbrev pub p1Sheet : List ℕ
-p1Sheet =
-    32 ∷ 32 ∷ 32 ∷ 32 ∷ 32 ∷ 32 ∷ 32 ∷ 49 ∷ 32 ∷ 32 ∷ 32 ∷ 32 ∷ 32 ∷ 32 ∷ 32 ∷ 49 ∷ 32 ∷ 32 ∷ 32 ∷ 32 ∷ 32 ∷ 32 ∷ 32 ∷ 50 ∷ 32 ∷ 32 ∷ 32 ∷ 32 ∷ 32 ∷ 49 ∷ 48 ∷ 48  -- 1 1 2 100
-    ∷ 32 ∷ 32 ∷ 32 ∷ 32 ∷ 32 ∷ 32 ∷ 32 ∷ 49 ∷ 32 ∷ 32 ∷ 32 ∷ 32 ∷ 32 ∷ 32 ∷ 32 ∷ 49 ∷ 32 ∷ 32 ∷ 32 ∷ 32 ∷ 32 ∷ 32 ∷ 32 ∷ 50 ∷ 32 ∷ 32 ∷ 32 ∷ 32 ∷ 32 ∷ 32 ∷ 32 ∷ 48 ∷ 10  -- 1 1 2 0
-    ∷ 32 ∷ 32 ∷ 32 ∷ 32 ∷ 32 ∷ 32 ∷ 32 ∷ 50 ∷ 32 ∷ 32 ∷ 32 ∷ 32 ∷ 32 ∷ 32 ∷ 32 ∷ 49 ∷ 32 ∷ 32 ∷ 32 ∷ 32 ∷ 52 ∷ 48 ∷ 48 ∷ 48 ∷ 32 ∷ 32 ∷ 32 ∷ 32 ∷ 53 ∷ 48 ∷ 48 ∷ 48  -- 2 1 4000 5000
-    ∷ 32 ∷ 32 ∷ 32 ∷ 32 ∷ 32 ∷ 32 ∷ 32 ∷ 49 ∷ 32 ∷ 32 ∷ 32 ∷ 32 ∷ 32 ∷ 32 ∷ 32 ∷ 48 ∷ 32 ∷ 32 ∷ 32 ∷ 32 ∷ 32 ∷ 32 ∷ 32 ∷ 48 ∷ 32 ∷ 32 ∷ 32 ∷ 32 ∷ 32 ∷ 32 ∷ 32 ∷ 48 ∷ 10  -- 1 0 0 0
-    ∷ 32 ∷ 32 ∷ 32 ∷ 32 ∷ 32 ∷ 32 ∷ 32 ∷ 51 ∷ 32 ∷ 32 ∷ 32 ∷ 32 ∷ 32 ∷ 32 ∷ 32 ∷ 49 ∷ 32 ∷ 32 ∷ 32 ∷ 32 ∷ 32 ∷ 32 ∷ 32 ∷ 49 ∷ 32 ∷ 32 ∷ 32 ∷ 32 ∷ 49 ∷ 48 ∷ 48 ∷ 48  -- 3 1 1 1000
-    ∷ 32 ∷ 32 ∷ 32 ∷ 32 ∷ 49 ∷ 48 ∷ 48 ∷ 48 ∷ 32 ∷ 32 ∷ 32 ∷ 32 ∷ 32 ∷ 32 ∷ 32 ∷ 49 ∷ 32 ∷ 32 ∷ 32 ∷ 32 ∷ 32 ∷ 32 ∷ 32 ∷ 49 ∷ 32 ∷ 32 ∷ 32 ∷ 32 ∷ 32 ∷ 32 ∷ 32 ∷ 48 ∷ 10  -- 1000 1 1 0
-    ∷ 32 ∷ 32 ∷ 32 ∷ 32 ∷ 32 ∷ 32 ∷ 32 ∷ 51 ∷ 32 ∷ 32 ∷ 32 ∷ 32 ∷ 32 ∷ 32 ∷ 32 ∷ 49 ∷ 32 ∷ 32 ∷ 32 ∷ 32 ∷ 32 ∷ 32 ∷ 32 ∷ 50 ∷ 32 ∷ 32 ∷ 32 ∷ 32 ∷ 49 ∷ 48 ∷ 48 ∷ 48  -- 3 1 2 1000
-    ∷ 32 ∷ 32 ∷ 32 ∷ 32 ∷ 49 ∷ 48 ∷ 48 ∷ 48 ∷ 32 ∷ 32 ∷ 32 ∷ 32 ∷ 32 ∷ 32 ∷ 32 ∷ 49 ∷ 32 ∷ 32 ∷ 32 ∷ 32 ∷ 32 ∷ 32 ∷ 32 ∷ 49 ∷ 32 ∷ 32 ∷ 32 ∷ 32 ∷ 32 ∷ 32 ∷ 32 ∷ 48 ∷ 10  -- 1000 1 1 0
-    ∷ 32 ∷ 32 ∷ 32 ∷ 32 ∷ 32 ∷ 32 ∷ 32 ∷ 52 ∷ 32 ∷ 32 ∷ 32 ∷ 32 ∷ 32 ∷ 32 ∷ 32 ∷ 49 ∷ 32 ∷ 32 ∷ 32 ∷ 32 ∷ 32 ∷ 32 ∷ 32 ∷ 49 ∷ 32 ∷ 32 ∷ 32 ∷ 32 ∷ 32 ∷ 32 ∷ 32 ∷ 49  -- 4 1 1 1
-    ∷ 32 ∷ 32 ∷ 32 ∷ 32 ∷ 32 ∷ 32 ∷ 50 ∷ 48 ∷ 32 ∷ 32 ∷ 32 ∷ 32 ∷ 50 ∷ 48 ∷ 48 ∷ 48 ∷ 32 ∷ 32 ∷ 32 ∷ 32 ∷ 32 ∷ 32 ∷ 32 ∷ 49 ∷ 32 ∷ 32 ∷ 32 ∷ 32 ∷ 32 ∷ 32 ∷ 32 ∷ 49 ∷ 10  -- 20 2000 1 1
-    ∷ 32 ∷ 32 ∷ 32 ∷ 32 ∷ 32 ∷ 32 ∷ 32 ∷ 52 ∷ 32 ∷ 32 ∷ 32 ∷ 32 ∷ 32 ∷ 32 ∷ 32 ∷ 49 ∷ 32 ∷ 32 ∷ 32 ∷ 32 ∷ 32 ∷ 32 ∷ 32 ∷ 49 ∷ 32 ∷ 32 ∷ 32 ∷ 32 ∷ 32 ∷ 32 ∷ 32 ∷ 50  -- 4 1 1 2
-    ∷ 32 ∷ 32 ∷ 32 ∷ 32 ∷ 32 ∷ 32 ∷ 32 ∷ 48 ∷ 32 ∷ 32 ∷ 32 ∷ 32 ∷ 50 ∷ 48 ∷ 48 ∷ 48 ∷ 32 ∷ 32 ∷ 32 ∷ 32 ∷ 32 ∷ 32 ∷ 32 ∷ 48 ∷ 32 ∷ 32 ∷ 32 ∷ 32 ∷ 32 ∷ 32 ∷ 32 ∷ 50 ∷ 10  -- 0 2000 0 2
-    ∷ 32 ∷ 32 ∷ 32 ∷ 32 ∷ 32 ∷ 32 ∷ 32 ∷ 52 ∷ 32 ∷ 32 ∷ 32 ∷ 32 ∷ 32 ∷ 32 ∷ 32 ∷ 49 ∷ 32 ∷ 32 ∷ 32 ∷ 32 ∷ 32 ∷ 32 ∷ 32 ∷ 49 ∷ 32 ∷ 32 ∷ 32 ∷ 32 ∷ 32 ∷ 32 ∷ 32 ∷ 51  -- 4 1 1 3
-    ∷ 32 ∷ 32 ∷ 32 ∷ 32 ∷ 32 ∷ 32 ∷ 50 ∷ 48 ∷ 32 ∷ 32 ∷ 32 ∷ 32 ∷ 50 ∷ 48 ∷ 48 ∷ 48 ∷ 32 ∷ 32 ∷ 32 ∷ 32 ∷ 32 ∷ 32 ∷ 32 ∷ 49 ∷ 32 ∷ 32 ∷ 32 ∷ 32 ∷ 32 ∷ 32 ∷ 32 ∷ 49 ∷ 10  -- 20 2000 1 1
-    ∷ 32 ∷ 32 ∷ 32 ∷ 32 ∷ 32 ∷ 32 ∷ 32 ∷ 52 ∷ 32 ∷ 32 ∷ 32 ∷ 32 ∷ 32 ∷ 32 ∷ 32 ∷ 49 ∷ 32 ∷ 32 ∷ 32 ∷ 32 ∷ 32 ∷ 32 ∷ 32 ∷ 50 ∷ 32 ∷ 32 ∷ 32 ∷ 32 ∷ 32 ∷ 32 ∷ 32 ∷ 49  -- 4 1 2 1
-    ∷ 32 ∷ 32 ∷ 32 ∷ 32 ∷ 32 ∷ 32 ∷ 50 ∷ 48 ∷ 32 ∷ 32 ∷ 32 ∷ 32 ∷ 50 ∷ 48 ∷ 48 ∷ 48 ∷ 32 ∷ 32 ∷ 32 ∷ 32 ∷ 32 ∷ 32 ∷ 32 ∷ 49 ∷ 32 ∷ 32 ∷ 32 ∷ 32 ∷ 32 ∷ 32 ∷ 32 ∷ 49 ∷ 10  -- 20 2000 1 1
-    ∷ 32 ∷ 32 ∷ 32 ∷ 32 ∷ 32 ∷ 32 ∷ 32 ∷ 52 ∷ 32 ∷ 32 ∷ 32 ∷ 32 ∷ 32 ∷ 32 ∷ 32 ∷ 49 ∷ 32 ∷ 32 ∷ 32 ∷ 32 ∷ 32 ∷ 32 ∷ 32 ∷ 50 ∷ 32 ∷ 32 ∷ 32 ∷ 32 ∷ 32 ∷ 32 ∷ 32 ∷ 50  -- 4 1 2 2
-    ∷ 32 ∷ 32 ∷ 32 ∷ 32 ∷ 32 ∷ 32 ∷ 50 ∷ 48 ∷ 32 ∷ 32 ∷ 32 ∷ 32 ∷ 52 ∷ 48 ∷ 48 ∷ 48 ∷ 32 ∷ 32 ∷ 32 ∷ 32 ∷ 32 ∷ 32 ∷ 32 ∷ 49 ∷ 32 ∷ 32 ∷ 32 ∷ 32 ∷ 32 ∷ 32 ∷ 32 ∷ 49 ∷ 10  -- 20 4000 1 1
-    ∷ 32 ∷ 32 ∷ 32 ∷ 32 ∷ 32 ∷ 32 ∷ 32 ∷ 52 ∷ 32 ∷ 32 ∷ 32 ∷ 32 ∷ 32 ∷ 32 ∷ 32 ∷ 49 ∷ 32 ∷ 32 ∷ 32 ∷ 32 ∷ 32 ∷ 32 ∷ 32 ∷ 50 ∷ 32 ∷ 32 ∷ 32 ∷ 32 ∷ 32 ∷ 32 ∷ 32 ∷ 51  -- 4 1 2 3
-    ∷ 32 ∷ 32 ∷ 32 ∷ 32 ∷ 32 ∷ 32 ∷ 50 ∷ 48 ∷ 32 ∷ 32 ∷ 32 ∷ 32 ∷ 50 ∷ 48 ∷ 48 ∷ 48 ∷ 32 ∷ 32 ∷ 32 ∷ 32 ∷ 32 ∷ 32 ∷ 32 ∷ 49 ∷ 32 ∷ 32 ∷ 32 ∷ 32 ∷ 32 ∷ 32 ∷ 32 ∷ 49 ∷ 10  -- 20 2000 1 1
-    ∷ 32 ∷ 32 ∷ 32 ∷ 32 ∷ 32 ∷ 32 ∷ 32 ∷ 53 ∷ 32 ∷ 32 ∷ 32 ∷ 32 ∷ 56 ∷ 49 ∷ 57 ∷ 49 ∷ 32 ∷ 32 ∷ 32 ∷ 32 ∷ 32 ∷ 32 ∷ 32 ∷ 56 ∷ 32 ∷ 32 ∷ 32 ∷ 32 ∷ 32 ∷ 32 ∷ 32 ∷ 48  -- 5 8191 8 0
-    ∷ 32 ∷ 32 ∷ 32 ∷ 32 ∷ 32 ∷ 32 ∷ 32 ∷ 48 ∷ 32 ∷ 32 ∷ 32 ∷ 32 ∷ 32 ∷ 32 ∷ 32 ∷ 48 ∷ 32 ∷ 32 ∷ 32 ∷ 32 ∷ 32 ∷ 32 ∷ 32 ∷ 48 ∷ 32 ∷ 32 ∷ 32 ∷ 32 ∷ 32 ∷ 32 ∷ 32 ∷ 48 ∷ 10  -- 0 0 0 0
-    ∷ []
-
--- And its report, the three lines that document 01 prints.
-abbrev pub p1Report : List ℕ
-p1Report =
-    32 ∷ 32 ∷ 32 ∷ 32 ∷ 32 ∷ 32 ∷ 32 ∷ 54 ∷ 32 ∷ 32 ∷ 32 ∷ 32 ∷ 32 ∷ 32 ∷ 32 ∷ 49 ∷ 32 ∷ 32 ∷ 32 ∷ 32 ∷ 32 ∷ 32 ∷ 32 ∷ 49 ∷ 32 ∷ 32 ∷ 32 ∷ 32 ∷ 32 ∷ 57 ∷ 50 ∷ 48  -- 6 1 1 920
-    ∷ 32 ∷ 32 ∷ 32 ∷ 32 ∷ 49 ∷ 54 ∷ 48 ∷ 48 ∷ 32 ∷ 32 ∷ 32 ∷ 32 ∷ 32 ∷ 49 ∷ 48 ∷ 48 ∷ 32 ∷ 32 ∷ 32 ∷ 32 ∷ 32 ∷ 32 ∷ 56 ∷ 51 ∷ 32 ∷ 32 ∷ 32 ∷ 32 ∷ 32 ∷ 32 ∷ 52 ∷ 55 ∷ 10  -- 1600 100 83 47
-    ∷ 32 ∷ 32 ∷ 32 ∷ 32 ∷ 32 ∷ 32 ∷ 32 ∷ 54 ∷ 32 ∷ 32 ∷ 32 ∷ 32 ∷ 32 ∷ 32 ∷ 32 ∷ 49 ∷ 32 ∷ 32 ∷ 32 ∷ 32 ∷ 32 ∷ 32 ∷ 32 ∷ 50 ∷ 32 ∷ 32 ∷ 32 ∷ 32 ∷ 49 ∷ 54 ∷ 48 ∷ 48  -- 6 1 2 1600
-    ∷ 32 ∷ 32 ∷ 32 ∷ 32 ∷ 49 ∷ 54 ∷ 48 ∷ 48 ∷ 32 ∷ 32 ∷ 32 ∷ 32 ∷ 32 ∷ 49 ∷ 48 ∷ 48 ∷ 32 ∷ 32 ∷ 32 ∷ 32 ∷ 32 ∷ 32 ∷ 56 ∷ 51 ∷ 32 ∷ 32 ∷ 32 ∷ 32 ∷ 32 ∷ 32 ∷ 56 ∷ 51 ∷ 10  -- 1600 100 83 83
-    ∷ 32 ∷ 32 ∷ 32 ∷ 32 ∷ 32 ∷ 32 ∷ 32 ∷ 55 ∷ 32 ∷ 32 ∷ 32 ∷ 32 ∷ 32 ∷ 32 ∷ 32 ∷ 52 ∷ 32 ∷ 32 ∷ 32 ∷ 32 ∷ 32 ∷ 32 ∷ 52 ∷ 55 ∷ 32 ∷ 32 ∷ 32 ∷ 32 ∷ 32 ∷ 32 ∷ 32 ∷ 48  -- 7 4 47 0
-    ∷ 32 ∷ 32 ∷ 32 ∷ 32 ∷ 32 ∷ 32 ∷ 32 ∷ 48 ∷ 32 ∷ 32 ∷ 32 ∷ 32 ∷ 32 ∷ 32 ∷ 32 ∷ 48 ∷ 32 ∷ 32 ∷ 32 ∷ 32 ∷ 32 ∷ 32 ∷ 32 ∷ 48 ∷ 32 ∷ 32 ∷ 32 ∷ 32 ∷ 32 ∷ 32 ∷ 32 ∷ 48 ∷ 10  -- 0 0 0 0
-    ∷ []
-
--- P1's house in another zone, of another age and with another marked set; and P1 in a lower zone, young and without marks.
-abbrev pub p1But : ℕ → ℕ → ℕ → List ℕ
-p1But zone age marked = set (set (set p1 3 zone) 6 age) 82 marked
-
-abbrev pub youngP1 : List ℕ
-youngP1 = p1But 90 1 0
-
--- P10's houses, by zone: P1's with no marks and in X only end walls, of 540 and 630 mm.
-abbrev pub p10 : ℕ → List ℕ
-p10 zone =
-    1 ∷ 1 ∷ 2 ∷ zone ∷ 1 ∷ 1 ∷ 2 ∷ 0
-    ∷ 2 ∷ 1 ∷ 4000 ∷ 5000 ∷ 1 ∷ 0 ∷ 0 ∷ 0
-    ∷ 3 ∷ 1 ∷ 1 ∷ 1000 ∷ 1000 ∷ 1 ∷ 1 ∷ 0
-    ∷ 3 ∷ 1 ∷ 2 ∷ 1000 ∷ 1000 ∷ 1 ∷ 1 ∷ 0
-    ∷ 4 ∷ 1 ∷ 1 ∷ 1 ∷ 20 ∷ 540 ∷ 1 ∷ 1
-    ∷ 4 ∷ 1 ∷ 1 ∷ 3 ∷ 20 ∷ 630 ∷ 1 ∷ 1
-    ∷ 4 ∷ 1 ∷ 2 ∷ 1 ∷ 20 ∷ 2000 ∷ 1 ∷ 1
-    ∷ 4 ∷ 1 ∷ 2 ∷ 2 ∷ 20 ∷ 4000 ∷ 1 ∷ 1
-    ∷ 4 ∷ 1 ∷ 2 ∷ 3 ∷ 20 ∷ 2000 ∷ 1 ∷ 1
-    ∷ 5 ∷ 8191 ∷ 0 ∷ 0 ∷ 0 ∷ 0 ∷ 0 ∷ 0
-    ∷ []
+use Rattle.diagnosis.specs.Program.{mostNumbers, tableOf, diagnosing, afterDiagnosing, mostReportBytes, output}
+use Rattle.diagnosis.specs.Worked.{p1Report, p10, sound, heavy, zone100, softGround, overTen, moreMarks, allWorse, figures, sameBands}
 
 -- P1's sheet can be read, and is P1's table.
 p1-read : reading p1Sheet mostNumbers ≡ counted 11
@@ -99,11 +38,6 @@ p1-table : tableOf p1Sheet ≡ p1
 unfolding tableOf numbersOf rowsIn joined fieldAt part field after digitAfter value
 p1-table = refl
 
--- The other houses are accepted.
-pub young-judged : judging youngP1 ≡ counted 11
-unfolding judging rowsIn first rowFault houseFault storeyFault endsFault wallFault partsFault wallRows ranges.zone storeyBefore within wrongColumn leftmost outside test _then_
-young-judged = refl
-
 -- A zone that a house may have, by which P10's are accepted.
 abbrev pub Known : ℕ → Type 0
 Known zone = ranges.zone zone ≡ zone
@@ -113,22 +47,22 @@ unfolding ranges.zone
 zones-known = (refl, refl)
 
 pub p10-judged : (zone : ℕ) → Known zone → judging (p10 zone) ≡ counted 10
-unfolding young-judged
+unfolding judging rowsIn first rowFault houseFault storeyFault endsFault wallFault partsFault wallRows ranges.zone storeyBefore within wrongColumn leftmost outside test _then_
 p10-judged zone known = rw (known, le-ltb zone zone (le-refl zone))
 
 -- The walls of their one storey.
-pub p1-walls : (zone age marked : ℕ) → judging (p1But zone age marked) ≡ counted 11 → storeyWalls (p1But zone age marked) 1 ≡ rowsFrom p1 4 6
+pub p1-walls : storeyWalls p1 1 ≡ rowsFrom p1 4 6
 unfolding storeyWalls rowsWhere rowsFrom isWallOf
-p1-walls zone age marked judged = rw judged
+p1-walls = rw p1-judged
 
 pub p10-walls : (zone : ℕ) → Known zone → storeyWalls (p10 zone) 1 ≡ rowsFrom (p10 zone) 4 5
-unfolding storeyWalls rowsWhere rowsFrom isWallOf
+unfolding p1-walls
 p10-walls zone known = rw (p10-judged zone known)
 
 -- From the walls on all is computed. Laws below that name this one in their `unfolding` line unfold what it does.
 pub p1-scores : scores p1 ≡ 47 ∷ 83 ∷ []
-unfolding scores joined fullScore layout higherBand endBand endRequired required requiredOf deterioration storeyFloorType held endHeld heldWhere sharesWhere share solidAtEnd inDirection rowsFrom wallRows first nth position foundationUsed sharedRow entry interpolated rowFactor jointFactor solidShare openingShare wallShare heldStrength topLine constant groundFactor narrowFactor requiredStrength reached band floorType layoutFactor points countedMarks factorOf deteriorationFactor score
-p1-scores = rw (p1-walls 100 2 8 p1-judged)
+unfolding scores joined fullScore scoreBefore layout higherBand endBand endRequired required requiredOf deterioration storeyFloorType held endHeld heldWhere sharesWhere share solidAtEnd inDirection rowsFrom wallRows first nth position foundationUsed sharedRow entry interpolated rowFactor jointFactor solidShare openingShare wallShare heldStrength topLine constant groundFactor narrowFactor requiredStrength reached band floorType layoutFactor points countedMarks factorOf deteriorationFactor score
+p1-scores = rw p1-walls
 
 p1-rows : reportRows p1 ≡
     6 ∷ 1 ∷ 1 ∷ 920 ∷ 1600 ∷ 100 ∷ 83 ∷ 47
@@ -136,45 +70,76 @@ p1-rows : reportRows p1 ≡
     ∷ 7 ∷ 4 ∷ 47 ∷ 0 ∷ 0 ∷ 0 ∷ 0 ∷ 0
     ∷ []
 unfolding p1-scores resultRows reportRows leastScore leastOf verdict
-p1-rows = rw (p1-walls 100 2 8 p1-judged)
+p1-rows = rw p1-walls
 
 p1-printed : reportBytes p1 ≡ p1Report
 unfolding reportBytes linesOf joined part line printed digitOrSpace
 p1-printed = rw p1-rows
 
--- From sheet to report.
-pub p1-diagnosed : diagnosing p1Sheet 195 ≡ counted 195
+-- From sheet to report, with as many bytes lent as it needs, and as many as any does.
+p1-diagnosed : diagnosing p1Sheet 195 ≡ counted 195
 unfolding diagnosing reporting
 p1-diagnosed = rw (p1-read, p1-table, p1-judged)
+
+p1-answered : diagnosing p1Sheet mostReportBytes ≡ counted 195
+unfolding diagnosing reporting
+p1-answered = rw (p1-read, p1-table, p1-judged)
 
 p1-after : afterDiagnosing p1Sheet (replicate 195 0) ≡ p1Report
 unfolding afterDiagnosing over
 p1-after = rw (p1-diagnosed, p1-table, p1-printed)
 
--- P10's scores.
-pub p10-rises : (fullScore (p10 90) 1 1 ≡ 11) × (fullScore (p10 100) 1 1 ≡ 14)
+p1-output : output p1Sheet ≡ p1Report
+unfolding output
+p1-output = rw (p1-answered, p1-table, p1-printed)
+
+-- P10's scores before the layout factor, its full scores, and its higher bands in X: the better end falls from B to A.
+abbrev pub p10Numbers : ℕ → List ℕ
+p10Numbers zone = scoreBefore (p10 zone) 1 1 ∷ fullScore (p10 zone) 1 1 ∷ higherBand (p10 zone) 1 1 ∷ []
+
+pub p10-rises : (p10Numbers 90 ≡ 16 ∷ 11 ∷ 1 ∷ []) × (p10Numbers 100 ≡ 14 ∷ 14 ∷ 0 ∷ [])
 unfolding p1-scores
 p10-rises = (rw (p10-walls 90 (zones-known .0)), rw (p10-walls 100 (zones-known .1)))
 
--- The better end in X falls from band B to A.
-pub p10-bands : (higherBand (p10 90) 1 1 ≡ 1) × (higherBand (p10 100) 1 1 ≡ 0)
-unfolding p1-scores
-p10-bands = (rw (p10-walls 90 (zones-known .0)), rw (p10-walls 100 (zones-known .1)))
-
--- Document 01's small table in one statement over the definitions: P1, then P2 to P9 and P11, then P10.
+-- Document 01's small table in one statement over the definitions: P1 from its sheet to what is printed, with the count of bytes; P2 to P9 and
+-- P11 on plain numbers; P10 in zones 90 and 100.
 pub houses-worked-out :
-    (afterDiagnosing p1Sheet (replicate 195 0) ∷ worked ∷ (fullScore (p10 90) 1 1 ∷ fullScore (p10 100) 1 1 ∷ []) ∷ [])
-    ≡ (p1Report ∷ expected ∷ (11 ∷ 14 ∷ []) ∷ [])
-houses-worked-out = λ i. p1-after i ∷ worked-out i ∷ (p10-rises .0 i ∷ p10-rises .1 i ∷ []) ∷ []
+    ((diagnosing p1Sheet 195 .count ∷ []) ∷ afterDiagnosing p1Sheet (replicate 195 0) ∷ output p1Sheet ∷ worked ∷ p10Numbers 90 ∷ p10Numbers 100 ∷ [])
+    ≡ ((195 ∷ []) ∷ p1Report ∷ p1Report ∷ expected ∷ (16 ∷ 11 ∷ 1 ∷ []) ∷ (14 ∷ 14 ∷ 0 ∷ []) ∷ [])
+houses-worked-out = λ i. (p1-diagnosed i .count ∷ []) ∷ p1-after i ∷ p1-output i ∷ worked-out i ∷ p10-rises .0 i ∷ p10-rises .1 i ∷ []
 
--- The scores of P1 and of `youngP1`, and that each better end has the same band in both.
-pub young-scores : (scores youngP1 ≡ 63 ∷ 111 ∷ []) × (scores p1 ≡ 47 ∷ 83 ∷ [])
-unfolding p1-scores
-young-scores = (rw (p1-walls 90 1 0 young-judged), p1-scores)
+-- The house of two storeys is accepted, as it is and worse in one of the five numbers or in all of them.
+abbrev pub Judged : List ℕ → Type 0
+Judged table = judging table ≡ counted 14
 
-pub young-band : (direction : ℕ) → 1 ≤ direction → direction ≤ 2 → higherBand p1 1 direction ≡ higherBand youngP1 1 direction
+pub two-judged : Judged sound × Judged heavy × Judged zone100 × Judged softGround × Judged overTen × Judged moreMarks × Judged allWorse
+unfolding p10-judged
+two-judged = (refl, refl, refl, refl, refl, refl, refl)
+
+-- From its walls on all is computed.
+module _ (weight zone ground age marked : ℕ) (accepted : Judged (twoStoreys weight zone ground age marked)) where
+  abbrev house : List ℕ
+  house = twoStoreys weight zone ground age marked
+
+  walls : (storeyWalls house 1 ≡ rowsFrom house 7 3) × (storeyWalls house 2 ≡ rowsFrom house 10 3)
+  unfolding p1-walls
+  walls = (rw accepted, rw accepted)
+
+pub worsened-figures :
+    (figures sound ≡ (101 ∷ 200 ∷ 262 ∷ 187 ∷ []) ∷ sameBands ∷ [])
+    × (figures heavy ≡ (79 ∷ 157 ∷ 183 ∷ 131 ∷ []) ∷ sameBands ∷ [])
+    × (figures zone100 ≡ (91 ∷ 180 ∷ 236 ∷ 168 ∷ []) ∷ sameBands ∷ [])
+    × (figures softGround ≡ (67 ∷ 133 ∷ 175 ∷ 125 ∷ []) ∷ sameBands ∷ [])
+    × (figures overTen ≡ (97 ∷ 192 ∷ 251 ∷ 179 ∷ []) ∷ sameBands ∷ [])
+    × (figures moreMarks ≡ (80 ∷ 158 ∷ 208 ∷ 148 ∷ []) ∷ sameBands ∷ [])
+    × (figures allWorse ≡ (37 ∷ 74 ∷ 87 ∷ 62 ∷ []) ∷ sameBands ∷ [])
 unfolding p1-scores
-young-band zero some most = absurd (omega arith)
-young-band (suc zero) some most = rw (p1-walls 100 2 8 p1-judged, p1-walls 90 1 0 young-judged)
-young-band (suc (suc zero)) some most = rw (p1-walls 100 2 8 p1-judged, p1-walls 90 1 0 young-judged)
-young-band (suc (suc (suc n))) some most = absurd (omega arith)
+worsened-figures = (
+  rw (walls 1 90 1 1 2048 (two-judged .0) .0, walls 1 90 1 1 2048 (two-judged .0) .1),
+  rw (walls 2 90 1 1 2048 (two-judged .1) .0, walls 2 90 1 1 2048 (two-judged .1) .1),
+  rw (walls 1 100 1 1 2048 (two-judged .2) .0, walls 1 100 1 1 2048 (two-judged .2) .1),
+  rw (walls 1 90 2 1 2048 (two-judged .3) .0, walls 1 90 2 1 2048 (two-judged .3) .1),
+  rw (walls 1 90 1 2 2048 (two-judged .4) .0, walls 1 90 1 2 2048 (two-judged .4) .1),
+  rw (walls 1 90 1 1 2056 (two-judged .5) .0, walls 1 90 1 1 2056 (two-judged .5) .1),
+  rw (walls 2 100 2 2 2056 (two-judged .6) .0, walls 2 100 2 2 2056 (two-judged .6) .1),
+)

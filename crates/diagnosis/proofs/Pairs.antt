@@ -2,25 +2,27 @@
 -- applies. By computation. Assumes nothing.
 use mathlib.Core.Path.{_≡_, refl, sym, ap, _∙_}
 use mathlib.Core.Bool.{Bool, true, false, _||_}
-use mathlib.Core.List.{List}
-use Prim.Native.Nat.{ℕ, _*_, _<_, _≤_}
+use mathlib.Core.List.{List, [], _∷_}
+use Prim.Native.Nat.{ℕ, zero, suc, _*_, _<_, _≤_}
 use native.Mathlib.Omega.{arith}
 use native.Mathlib.Decide.{decLt}
-use lib.ListN.{length}
+use lib.ListN.{length, getD}
 use lib.Dec.{eqb}
 use borrow.Author.Tests.{eqb-true}
 use Rattle.answer.specs.Told.{Told, counted}
 use Rattle.answer.specs.First.{first}
-use Rattle.answer.specs.Houses.{p1}
-use Rattle.survey.specs.Table.{cell, wallRows}
+use Rattle.answer.specs.Houses.{twoStoreys}
+use Rattle.survey.specs.Table.{cell, storeys, wallRows}
 use Rattle.survey.specs.Judgement.{within, judging}
+use Rattle.survey.specs.Walls.{rowsFrom, storeyWalls}
 use Rattle.survey.proofs.Positions.{beyond}
-use Rattle.survey.proofs.Examples.{p1-judged}
 use Rattle.method.proofs.Tables.{everyBelow, at-every}
-use Rattle.diagnosis.specs.House.{weight, zone, ground, age, marked, fullScore, houseVerdict}
-use Rattle.diagnosis.specs.Comparison.{mayDiffer, Worse, InHouse, Kept}
+use Rattle.diagnosis.specs.House.{weight, zone, ground, age, marked, higherBand, fullScore, scores, houseVerdict}
+use Rattle.diagnosis.specs.Answers.{recordOf}
+use Rattle.diagnosis.specs.Comparison.{mayDiffer, Worse, InHouse, Kept, scoreAt, Applies}
+use Rattle.diagnosis.specs.Worked.{p10, sound, heavy, zone100, softGround, overTen, moreMarks, allWorse, figures, sameBands}
 use Rattle.diagnosis.proofs.Comparing.{comparison}
-use Rattle.diagnosis.proofs.Examples.{youngP1, young-judged, zones-known, p10, p10-judged, p10-rises, young-band}
+use Rattle.diagnosis.proofs.Examples.{zones-known, p10-judged, p10-rises, two-judged, worsened-figures}
 
 -- Whether the first rows of two tables, so many, hold equal numbers wherever they may not differ.
 alike : List ℕ → List ℕ → ℕ → Bool
@@ -54,33 +56,60 @@ module _
       marks = marks;
     }
 
--- Demand 3's pair without the premise on bands: made worse, a house scores more (`p10-rises`: 14 where it was
--- 11) since its better end falls from B to A (`p10-bands`).
+-- Demand 3's pair without the premise on bands: made worse, a house scores more, 14 where it was 11, since its better end falls from B to A
+-- (`p10-rises`).
 pub p10-worse : Worse (p10 90) (p10 100)
 unfolding alike everyBelow mayDiffer wallRows first within
 p10-worse =
     made-worse (p10 90) (p10 100) 10 (p10-judged 90 (zones-known .0)) (p10-judged 100 (zones-known .1)) refl refl refl
     (omega arith) (omega arith) (omega arith) (omega arith) refl
 
+p10-scores : (fullScore (p10 90) 1 1 ≡ 11) × (fullScore (p10 100) 1 1 ≡ 14)
+p10-scores = (ap (λ (l : List ℕ). getD l 1 0) (p10-rises .0), ap (λ (l : List ℕ). getD l 1 0) (p10-rises .1))
+
 -- So without that premise the comparison is false.
 pub bands-needed : ((A B : List ℕ) → Worse A B → (storey direction : ℕ) → InHouse A storey direction → fullScore B storey direction ≤ fullScore A storey direction)
     → ⊥
 bands-needed claim =
     let stands : InHouse (p10 90) 1 1 = record { some-storey = omega arith; last-storey = omega arith; some-direction = omega arith; last-direction = omega arith } in
-    omega (arith, claim (p10 90) (p10 100) p10-worse 1 1 stands, p10-rises .0, p10-rises .1)
+    omega (arith, claim (p10 90) (p10 100) p10-worse 1 1 stands, p10-scores)
 
--- A pair to which all of demand 3 applies: P1 is `youngP1` made worse, and every better end keeps its band.
-pub young-worse : Worse youngP1 p1
+-- What holds of 1 and 2 holds of a storey of two, and of a direction.
+one-or-two : (P : ℕ → Type 0) → P 1 → P 2 → (n : ℕ) → 1 ≤ n → n ≤ 2 → P n
+one-or-two P one two zero some most = absurd (omega arith)
+one-or-two P one two (suc zero) some most = one
+one-or-two P one two (suc (suc zero)) some most = two
+one-or-two P one two (suc (suc (suc n))) some most = absurd (omega arith)
+
+-- The sound house of two storeys made worse, with the same bands of its better ends.
+module _
+    (B : List ℕ) (accepted : judging B ≡ counted 14) (long : length B ≡ 112) (passed : alike sound B 14 ≡ true) {scored : List ℕ}
+    (b : figures B ≡ scored ∷ sameBands ∷ [])
+  where
+    band-same : (i : ℕ) → getD (getD (figures B) 1 []) i 0 ≡ getD (getD (figures sound) 1 []) i 0
+    band-same i = ap (λ (l : List (List ℕ)). getD (getD l 1 []) i 0) b ∙ sym (ap (λ (l : List (List ℕ)). getD (getD l 1 []) i 0) (worsened-figures .0))
+
+    applies : weight sound ≤ weight B → zone sound ≤ zone B → ground sound ≤ ground B → age sound ≤ age B → within (marked sound) (marked B) ≡ true
+        → Applies sound B
+    applies heavier higher softer older marks = record {
+      worse = made-worse sound B 14 (two-judged .0) accepted refl long passed heavier higher softer older marks;
+      kept = λ storey direction s.
+          one-or-two
+          (λ storey. Kept sound B storey direction)
+          (one-or-two (Kept sound B 1) (band-same 0) (band-same 1) direction (s .some-direction) (s .last-direction))
+          (one-or-two (Kept sound B 2) (band-same 2) (band-same 3) direction (s .some-direction) (s .last-direction)) storey (s .some-storey)
+          (s .last-storey);
+    }
+
+-- Pairs to which all of demand 3 applies: one for each of the five, and one that is worse in all of them.
+pub worsened :
+    Applies sound heavy × Applies sound zone100 × Applies sound softGround × Applies sound overTen × Applies sound moreMarks × Applies sound allWorse
 unfolding p10-worse
-young-worse =
-    made-worse youngP1 p1 11 young-judged p1-judged refl refl refl
-    (omega arith) (omega arith) (omega arith) (omega arith) refl
-
-pub young-kept : (storey direction : ℕ) → InHouse youngP1 storey direction → Kept youngP1 p1 storey direction
-young-kept storey direction s =
-    let one : storey ≡ 1 = omega arith in
-    rw one (young-band direction (s .some-direction) (s .last-direction))
-
--- So by the theorem P1's verdict is no better. (`young-scores`: its scores are lower, 47 and 83 where they were 63 and 111.)
-pub young-no-better : houseVerdict youngP1 ≤ houseVerdict p1
-young-no-better = comparison youngP1 p1 young-worse .verdict young-kept
+worsened = (
+  applies heavy (two-judged .1) refl refl (worsened-figures .1) (omega arith) (omega arith) (omega arith) (omega arith) refl,
+  applies zone100 (two-judged .2) refl refl (worsened-figures .2) (omega arith) (omega arith) (omega arith) (omega arith) refl,
+  applies softGround (two-judged .3) refl refl (worsened-figures .3) (omega arith) (omega arith) (omega arith) (omega arith) refl,
+  applies overTen (two-judged .4) refl refl (worsened-figures .4) (omega arith) (omega arith) (omega arith) (omega arith) refl,
+  applies moreMarks (two-judged .5) refl refl (worsened-figures .5) (omega arith) (omega arith) (omega arith) (omega arith) refl,
+  applies allWorse (two-judged .6) refl refl (worsened-figures .6) (omega arith) (omega arith) (omega arith) (omega arith) refl,
+)

@@ -13,10 +13,16 @@ use Rattle.diagnosis.specs.declared.scores.Scoring.{Scoring}
 use Rattle.diagnosis.specs.House.{weight, zone, ground, age, marked, higherBand, scoreBefore, fullScore, houseVerdict}
 use Rattle.diagnosis.specs.Answers.{toldScoring, scoring}
 
--- The columns that may differ: 3, 4, 5 and 7 of the house row, and the marked set, all from 1; here from 0.
+-- The columns that may differ: 3, 4, 5 and 7 of the house row (weight class, zone, ground, age) and 3 of the parts row (the marked set); here
+-- they count from 0.
+abbrev pub houseMayDiffer : ℕ → Bool
+houseMayDiffer column = eqb column 2 || eqb column 3 || eqb column 4 || eqb column 6
+
+abbrev pub partsMayDiffer : ℕ → Bool
+partsMayDiffer column = eqb column 2
+
 unfoldable pub mayDiffer : List ℕ → ℕ → ℕ → Bool
-mayDiffer table row column =
-    eqb row 0 && (eqb column 2 || eqb column 3 || eqb column 4 || eqb column 6) || eqb row (partsRow table) && eqb column 2
+mayDiffer table row column = eqb row 0 && houseMayDiffer column || eqb row (partsRow table) && partsMayDiffer column
 
 -- B is A, or A made worse.
 pub record Worse (A B : List ℕ) : Type 0 where
@@ -65,3 +71,8 @@ pub record NoBetter (A B : List ℕ) : Type 0 where
   pub record-verdict : (a b : Scoring) → toldScoring a ≡ scoring A → toldScoring b ≡ scoring B
       → ((storey direction : ℕ) → InHouse A storey direction → Kept A B storey direction)
       → a .result .verdict ≤ b .result .verdict
+
+-- A pair to which all of demand 3 applies: B is A made worse, and every better end stays in its band.
+pub record Applies (A B : List ℕ) : Type 0 where
+  pub worse : Worse A B
+  pub kept : (storey direction : ℕ) → InHouse A storey direction → Kept A B storey direction

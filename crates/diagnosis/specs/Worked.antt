@@ -1,0 +1,61 @@
+-- The houses that the examples of this crate speak of: those of document 01, "Houses worked through", and pairs to which demand 3 applies.
+use mathlib.Core.List.{List, [], _∷_, _++_}
+use Prim.Native.Nat.{ℕ}
+use Rattle.answer.specs.Text.{bytes}
+use Rattle.answer.specs.Houses.{twoStoreys}
+use Rattle.diagnosis.specs.House.{higherBand, scores}
+
+-- P1's report, the three lines that document 01 prints.
+abbrev pub p1Report : List ℕ
+p1Report =
+    bytes "       6       1       1     920    1600     100      83      47\n"
+    ++ bytes "       6       1       2    1600    1600     100      83      83\n"
+    ++ bytes "       7       4      47       0       0       0       0       0\n"
+
+-- P10's houses, by zone: P1's with no marks and in X only end walls, of 540 and 630 mm.
+abbrev pub p10 : ℕ → List ℕ
+p10 zone =
+    1 ∷ 1 ∷ 2 ∷ zone ∷ 1 ∷ 1 ∷ 2 ∷ 0
+    ∷ 2 ∷ 1 ∷ 4000 ∷ 5000 ∷ 1 ∷ 0 ∷ 0 ∷ 0
+    ∷ 3 ∷ 1 ∷ 1 ∷ 1000 ∷ 1000 ∷ 1 ∷ 1 ∷ 0
+    ∷ 3 ∷ 1 ∷ 2 ∷ 1000 ∷ 1000 ∷ 1 ∷ 1 ∷ 0
+    ∷ 4 ∷ 1 ∷ 1 ∷ 1 ∷ 20 ∷ 540 ∷ 1 ∷ 1
+    ∷ 4 ∷ 1 ∷ 1 ∷ 3 ∷ 20 ∷ 630 ∷ 1 ∷ 1
+    ∷ 4 ∷ 1 ∷ 2 ∷ 1 ∷ 20 ∷ 2000 ∷ 1 ∷ 1
+    ∷ 4 ∷ 1 ∷ 2 ∷ 2 ∷ 20 ∷ 4000 ∷ 1 ∷ 1
+    ∷ 4 ∷ 1 ∷ 2 ∷ 3 ∷ 20 ∷ 2000 ∷ 1 ∷ 1
+    ∷ 5 ∷ 8191 ∷ 0 ∷ 0 ∷ 0 ∷ 0 ∷ 0 ∷ 0
+    ∷ []
+
+-- A house of two storeys: light, in zone 90, on ordinary ground, under ten years, the corridor floor alone marked.
+abbrev pub sound : List ℕ
+sound = twoStoreys 1 90 1 1 2048
+
+-- The same house worse in one of the five,
+abbrev pub heavy : List ℕ
+heavy = twoStoreys 2 90 1 1 2048
+
+abbrev pub zone100 : List ℕ
+zone100 = twoStoreys 1 100 1 1 2048
+
+abbrev pub softGround : List ℕ
+softGround = twoStoreys 1 90 2 1 2048
+
+abbrev pub overTen : List ℕ
+overTen = twoStoreys 1 90 1 2 2048
+
+-- (the outer wall marked too)
+abbrev pub moreMarks : List ℕ
+moreMarks = twoStoreys 1 90 1 1 2056
+
+-- and in all of them.
+abbrev pub allWorse : List ℕ
+allWorse = twoStoreys 2 100 2 2 2056
+
+-- The scores of a house of two storeys, and the bands of its better ends, both storey by storey.
+abbrev pub figures : List ℕ → List (List ℕ)
+figures table = scores table ∷ (higherBand table 1 1 ∷ higherBand table 1 2 ∷ higherBand table 2 1 ∷ higherBand table 2 2 ∷ []) ∷ []
+
+-- The bands that its better ends keep: E in X and A in Y in both storeys (A to E are 0 to 4).
+abbrev pub sameBands : List ℕ
+sameBands = 4 ∷ 0 ∷ 4 ∷ 0 ∷ []
