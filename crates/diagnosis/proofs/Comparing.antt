@@ -25,9 +25,9 @@ use Rattle.method.proofs.Comparisons.{score-before-falls, full-score-falls, ver
 use Rattle.diagnosis.specs.House.{ground, foundation, present, marked, endA, endB, share, heldWhere, held, endHeld, requiredOf, required, endRequired, endBand, higherBand, storeyFloorType, layout, deterioration, scoreBefore, fullScore, scores, leastScore, houseVerdict}
 use Rattle.diagnosis.specs.Answers.{recordOf}
 use Rattle.diagnosis.specs.Comparison.{houseMayDiffer, partsMayDiffer, mayDiffer, Worse, InHouse, Kept, NoBetter}
-use Rattle.diagnosis.proofs.Listed.{scores-length, score-at, record-score, record-told, least-falls, in-house-at}
-use Rattle.diagnosis.proofs.Standing.{storeys-few}
-use Rattle.diagnosis.proofs.Within.{lower-some}
+use Rattle.diagnosis.proofs.ScoreLists.{scores-length, score-at, record-score, record-told, least-falls, in-house-at}
+use Rattle.diagnosis.proofs.AcceptedTables.{storeys-few}
+use Rattle.diagnosis.proofs.Assessments.{lower-some}
 
 module _ (A B : List ℕ) (w : Worse A B) where
   a : Accepted A

@@ -1,11 +1,11 @@
 -- The laws about a table's diagnosis, and the theorems.
-pub mod Standing
+pub mod AcceptedTables
 pub mod Sums
-pub mod Within
-pub mod Listed
+pub mod Assessments
+pub mod ScoreLists
 pub mod Rows
-pub mod Printed
-pub mod Written
+pub mod ReportNumbers
+pub mod Reporting
 pub mod Comparing
 pub mod Examples
 pub mod Pairs

@@ -17,7 +17,8 @@ use Rattle.method.specs.Held.{heldStrength, mostHeld}
 use Rattle.method.proofs.Tables.{AllAtMost, all-append}
 use Rattle.method.proofs.Shares.{mostShare, share-most, held-append, held-most}
 use Rattle.diagnosis.specs.declared.strengths.Held.{Held}
-use Rattle.diagnosis.specs.House.{foundation, endA, endB, share, sharesWhere, heldWhere, inDirection, solidAtEnd, held, endHeld, heldBy, storeyHeld}
+use Rattle.diagnosis.specs.House.{foundation, endA, endB, share, sharesWhere, heldWhere, inDirection, solidAtEnd, held, endHeld}
+use Rattle.diagnosis.specs.Internal.{heldBy, storeyHeld}
 
 -- What a wall adds to a sum is at most what it counts.
 pub added-most : (takes : Bool) {counted most : ℕ} → counted ≤ most → cond takes counted 0 ≤ most

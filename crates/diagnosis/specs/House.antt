@@ -14,7 +14,6 @@ use Rattle.method.specs.Required.{narrowFactor, requiredStrength}
 use Rattle.method.specs.LayoutFactor.{band, floorType, layoutFactor}
 use Rattle.method.specs.Deterioration.{deteriorationFactor}
 use Rattle.method.specs.Score.{score, scoreBeforeLayout, verdict}
-use Rattle.diagnosis.specs.declared.strengths.Held.{Held}
 use Rattle.diagnosis.specs.declared.assessment.Assessment.{Assessment}
 
 -- The numbers of a table, by the columns where they stand. The house row;
@@ -184,24 +183,6 @@ leastScore table = leastOf (scores table)
 -- "Verdict by the least score".
 unfoldable pub houseVerdict : List ℕ → ℕ
 houseVerdict table = verdict (leastScore table)
-
--- What the code keeps
-
--- The three sums over the first walls of a storey, so many, which one loop keeps.
-abbrev pub heldBy : List ℕ → ℕ → List ℕ → ℕ → ℕ → Held
-heldBy table storey walls direction n = record {
-  all = heldWhere (inDirection walls direction) table storey walls n;
-  a = heldWhere (solidAtEnd walls direction endA) table storey walls n;
-  b = heldWhere (solidAtEnd walls direction endB) table storey walls n;
-}
-
--- What a storey holds in a direction, whole and at each end.
-abbrev pub storeyHeld : List ℕ → ℕ → ℕ → Held
-storeyHeld table storey direction = record {
-  all = held table storey direction;
-  a = endHeld table storey direction endA;
-  b = endHeld table storey direction endB;
-}
 
 -- What is worked out for a storey and direction.
 abbrev pub assessment : List ℕ → ℕ → ℕ → Assessment

@@ -24,7 +24,8 @@ ghost use mathlib.Core.Path.{_≡_};
 ghost use Prim.Native.Nat.{_≤_};
 ghost use Rattle.survey.specs.Table.{storeys};
 ghost use Rattle.survey.specs.Judgement.{judging};
-ghost use Rattle.diagnosis.specs.House.{endHeld, storeyHeld, required, endBand, storeyFloorType, deterioration, assessment};
+ghost use Rattle.diagnosis.specs.House.{endHeld, required, endBand, storeyFloorType, deterioration, assessment};
+ghost use Rattle.diagnosis.specs.Internal.{storeyHeld};
 
 // Held strength in 0.000001 kN, required strength in 0.000000001 kN, layout factor in hundredths, score.
 pub struct Assessment {

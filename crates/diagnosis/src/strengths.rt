@@ -24,7 +24,8 @@ ghost use Rattle.method.specs.Held.{mostHeld};
 ghost use Rattle.survey.specs.Table.{cell, storeys};
 ghost use Rattle.survey.specs.Judgement.{judging};
 ghost use Rattle.survey.specs.Walls.{storeyWalls};
-ghost use Rattle.diagnosis.specs.House.{share, inDirection, solidAtEnd, heldBy, storeyHeld, requiredOf};
+ghost use Rattle.diagnosis.specs.House.{share, inDirection, solidAtEnd, requiredOf};
+ghost use Rattle.diagnosis.specs.Internal.{heldBy, storeyHeld};
 
 // The type of a solid wall.
 const SOLID: u32 = 1;

@@ -8,7 +8,7 @@ use Rattle.diagnosis.specs.declared.scores.Outcome.{Outcome}
 use Rattle.diagnosis.specs.declared.scores.Outcome.the-variants.{Refused}
 use Rattle.diagnosis.specs.declared.scores.Record.{Record}
 use Rattle.diagnosis.specs.Answers.{ToldScoring, toldOutcome, scoring}
-use Rattle.diagnosis.proofs.Listed.{scored-by-number}
+use Rattle.diagnosis.proofs.ScoreLists.{scored-by-number}
 
 pub refused-number : (table : List ℕ) {outcome : Outcome} {result : Record} {number row column : ℕ} → outcome ≡ Refused number row column
     → toldOutcome outcome result ≡ scoring table

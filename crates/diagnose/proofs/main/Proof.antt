@@ -1,6 +1,6 @@
 -- `diagnose::main` is safe: what is printed is a part of the bytes that it was given. Assumes nothing.
 use borrow.Author.Needs.{needs}
-use Rattle.diagnosis.proofs.Written.{output-within}
+use Rattle.diagnosis.proofs.Reporting.{output-within}
 use Rattle.diagnose.proofs.main.Statement.{statement}
 use Rattle.diagnose.proofs.main.Tie as tie
 

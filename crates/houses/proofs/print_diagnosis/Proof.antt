@@ -1,6 +1,6 @@
 -- `houses::print_diagnosis` is safe: what is printed is a part of the bytes that it was given. Assumes nothing.
 use borrow.Author.Needs.{needs}
-use Rattle.diagnosis.proofs.Written.{output-within}
+use Rattle.diagnosis.proofs.Reporting.{output-within}
 use Rattle.houses.proofs.print_diagnosis.Statement.{statement}
 use Rattle.houses.proofs.print_diagnosis.Tie as tie
 

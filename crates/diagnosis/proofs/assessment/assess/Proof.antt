@@ -5,7 +5,7 @@ use denote.Ref.{now}
 use borrow.Author.Needs.{needs}
 use Rattle.diagnosis.specs.declared.strengths.Held.{Held}
 use Rattle.diagnosis.specs.House.{layout}
-use Rattle.diagnosis.proofs.Within.{score-is}
+use Rattle.diagnosis.proofs.Assessments.{score-is}
 use Rattle.diagnosis.proofs.assessment.assess.Statement.{statement}
 use Rattle.diagnosis.proofs.assessment.assess.Tie as tie
 

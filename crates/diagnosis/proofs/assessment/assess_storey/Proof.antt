@@ -2,7 +2,7 @@
 use mathlib.Core.Path.{_∙_}
 use native.Mathlib.Omega.{arith}
 use Rattle.survey.proofs.Shown.{run-is-walls}
-use Rattle.diagnosis.proofs.Standing.{storeys-few}
+use Rattle.diagnosis.proofs.AcceptedTables.{storeys-few}
 use borrow.Author.Needs.{needs}
 use Rattle.diagnosis.proofs.assessment.assess_storey.Statement.{statement}
 use Rattle.diagnosis.proofs.assessment.assess_storey.Tie as tie

@@ -6,8 +6,8 @@ use denote.Ref.{now}
 use lib.ListN.{length}
 use borrow.Author.Needs.{needs}
 use Rattle.diagnosis.specs.House.{endRequired}
-use Rattle.diagnosis.proofs.Within.{band-is}
-use Rattle.diagnosis.proofs.Standing.{house-inside, ends-inside}
+use Rattle.diagnosis.proofs.Assessments.{band-is}
+use Rattle.diagnosis.proofs.AcceptedTables.{house-inside, ends-inside}
 use Rattle.diagnosis.proofs.assessment.end_band.Statement.{statement}
 use Rattle.diagnosis.proofs.assessment.end_band.Tie as tie
 

@@ -2,7 +2,7 @@
 use native.Mathlib.Omega.{arith}
 use denote.Ref.{now}
 use borrow.Author.Needs.{needs}
-use Rattle.diagnosis.proofs.Written.{rows-fit, diagnose-refused, diagnose-read}
+use Rattle.diagnosis.proofs.Reporting.{rows-fit, diagnose-refused, diagnose-read}
 use Rattle.diagnosis.proofs.program.diagnose_by.Statement.{statement}
 use Rattle.diagnosis.proofs.program.diagnose_by.Tie as tie
 

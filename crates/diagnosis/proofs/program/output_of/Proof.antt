@@ -1,6 +1,6 @@
 -- `diagnosis::program::output_of` meets its contract: the report, or the line of the refusal. Assumes nothing.
 use borrow.Author.Needs.{needs}
-use Rattle.diagnosis.proofs.Written.{output-report, output-refusal}
+use Rattle.diagnosis.proofs.Reporting.{output-report, output-refusal}
 use Rattle.diagnosis.proofs.program.output_of.Statement.{statement}
 use Rattle.diagnosis.proofs.program.output_of.Tie as tie
 

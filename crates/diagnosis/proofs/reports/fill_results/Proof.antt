@@ -15,9 +15,9 @@ use Rattle.diagnosis.specs.declared.assessment.Assessment.{Assessment}
 use Rattle.diagnosis.specs.Report.{resultRows}
 use Rattle.diagnosis.specs.House.{scores, leastOf, leastScore}
 use Rattle.diagnosis.proofs.Rows.{storey-rows, rowsOf, rows-of-length, storey-more}
-use Rattle.diagnosis.proofs.Within.{row-fits}
-use Rattle.diagnosis.proofs.Listed.{scoresOf, least-score-more}
-use Rattle.diagnosis.proofs.Standing.{storeys-few, house-inside}
+use Rattle.diagnosis.proofs.Assessments.{row-fits}
+use Rattle.diagnosis.proofs.ScoreLists.{scoresOf, least-score-more}
+use Rattle.diagnosis.proofs.AcceptedTables.{storeys-few, house-inside}
 use Rattle.diagnosis.proofs.reports.fill_results.Statement.{statement}
 use Rattle.diagnosis.proofs.reports.fill_results.Tie as tie
 

@@ -1,7 +1,7 @@
 -- `diagnosis::reports::report` meets its contract: the refusal of judging, or what an accepted table gets. Assumes nothing.
 use borrow.Author.Needs.{needs}
 use Rattle.survey.proofs.Acceptance.{judge-accepted}
-use Rattle.diagnosis.proofs.Written.{report-refused}
+use Rattle.diagnosis.proofs.Reporting.{report-refused}
 use Rattle.diagnosis.proofs.reports.report.Statement.{statement}
 use Rattle.diagnosis.proofs.reports.report.Tie as tie
 

@@ -5,8 +5,8 @@ use native.Mathlib.Omega.{arith}
 use denote.Ref.{now}
 use borrow.Author.Needs.{needs}
 use Rattle.answer.specs.Told.{counted}
-use Rattle.diagnosis.proofs.Written.{report-short, report-written}
-use Rattle.diagnosis.proofs.Standing.{storeys-few, house-inside}
+use Rattle.diagnosis.proofs.Reporting.{report-short, report-written}
+use Rattle.diagnosis.proofs.AcceptedTables.{storeys-few, house-inside}
 use Rattle.diagnosis.proofs.reports.report_accepted.Statement.{statement}
 use Rattle.diagnosis.proofs.reports.report_accepted.Tie as tie
 

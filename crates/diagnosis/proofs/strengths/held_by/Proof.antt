@@ -5,9 +5,9 @@ use native.Mathlib.Omega.{arith}
 use denote.Ref.{now}
 use lib.ListN.{length}
 use borrow.Author.Needs.{needs}
-use Rattle.diagnosis.specs.House.{heldBy}
+use Rattle.diagnosis.specs.Internal.{heldBy}
 use Rattle.diagnosis.proofs.Sums.{no-walls, wall-ready, sums-whole}
-use Rattle.diagnosis.proofs.Standing.{house-inside}
+use Rattle.diagnosis.proofs.AcceptedTables.{house-inside}
 use Rattle.diagnosis.proofs.strengths.held_by.Statement.{statement}
 use Rattle.diagnosis.proofs.strengths.held_by.Tie as tie
 

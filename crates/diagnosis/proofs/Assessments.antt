@@ -13,7 +13,7 @@ use Rattle.method.specs.Score.{score}
 use Rattle.method.proofs.Fractions.{deterioration-bounded}
 use Rattle.diagnosis.specs.declared.assessment.Assessment.{Assessment}
 use Rattle.diagnosis.specs.House.{age, present, marked, held, endHeld, required, endRequired, endBand, layout, deterioration, fullScore, assessment}
-use Rattle.diagnosis.proofs.Standing.{required-within, end-required-within}
+use Rattle.diagnosis.proofs.AcceptedTables.{required-within, end-required-within}
 use Rattle.diagnosis.proofs.Sums.{storey-held-most, end-held-most}
 
 module _

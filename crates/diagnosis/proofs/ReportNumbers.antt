@@ -21,9 +21,9 @@ use Rattle.method.proofs.Fractions.{Bounded, deterioration-bounded}
 use Rattle.method.proofs.Comparisons.{verdict-most}
 use Rattle.diagnosis.specs.House.{age, present, marked, layout, deterioration, scores, leastOf, leastScore, assessment}
 use Rattle.diagnosis.specs.Report.{hundredths, resultRow, storeyRows, resultRows, verdictRow, reportRows, reportLines, reportBytes}
-use Rattle.diagnosis.proofs.Standing.{storeys-few, required-within}
+use Rattle.diagnosis.proofs.AcceptedTables.{storeys-few, required-within}
 use Rattle.diagnosis.proofs.Sums.{storey-held-most}
-use Rattle.diagnosis.proofs.Listed.{score-small}
+use Rattle.diagnosis.proofs.ScoreLists.{score-small}
 use Rattle.diagnosis.proofs.Rows.{report-length}
 
 -- No number of a list is too large for a field.

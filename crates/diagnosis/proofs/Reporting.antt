@@ -22,7 +22,7 @@ use Rattle.survey.proofs.Numbers.{judging-known}
 use Rattle.survey.proofs.Acceptance.{judge-refused}
 use Rattle.diagnosis.specs.Program.{mostNumbers, tableOf, diagnosing, afterDiagnosing, mostReportBytes, output, outputBytes}
 use Rattle.diagnosis.specs.Report.{reportRows, reportLines, reportBytes, reporting, afterReporting, refusalRow, refusalLine}
-use Rattle.diagnosis.proofs.Standing.{storeys-few}
+use Rattle.diagnosis.proofs.AcceptedTables.{storeys-few}
 
 -- An answer to writing a table's report into lent bytes, and these afterwards.
 abbrev Reported : List ℕ → List ℕ → Told → List ℕ → Type 0

@@ -23,7 +23,7 @@ use Rattle.diagnosis.specs.declared.scores.Scoring.{Scoring}
 use Rattle.diagnosis.specs.House.{held, required, layout, deterioration, fullScore, storeyScores, scores, leastOf, leastScore}
 use Rattle.diagnosis.specs.Answers.{noScores, noRecord, ToldScoring, toldOutcome, toldScoring, recordOf, scoring}
 use Rattle.diagnosis.specs.Comparison.{InHouse, scoreAt}
-use Rattle.diagnosis.proofs.Standing.{storeys-few}
+use Rattle.diagnosis.proofs.AcceptedTables.{storeys-few}
 
 -- The least of some scores, and of two more.
 pub least-more : (some : List ℕ) (x y : ℕ) → min (leastOf some) (min x y) ≡ leastOf (some ++ x ∷ y ∷ [])
