@@ -1,9 +1,9 @@
 -- Document 01's houses worked through, from P1's sheet to its report, by computation. Assumes nothing.
-use mathlib.Core.Path.{_≡_, refl}
+use mathlib.Core.Path.{_≡_, refl, ap}
 use mathlib.Core.List.{List, [], _∷_}
 use Prim.Native.Nat.{ℕ}
 use native.Mathlib.Nat.{le-refl}
-use lib.ListN.{replicate}
+use lib.ListN.{getD, replicate}
 use borrow.Author.Tests.{le-ltb}
 use Rattle.answer.specs.Told.{counted}
 use Rattle.answer.specs.First.{first}
@@ -24,7 +24,9 @@ use Rattle.method.specs.LayoutFactor.{reached, band, floorType, layoutFactor}
 use Rattle.method.specs.Deterioration.{points, countedMarks, factorOf, deteriorationFactor}
 use Rattle.method.specs.Score.{score, verdict}
 use Rattle.method.proofs.Examples.{worked, expected, worked-out}
-use Rattle.diagnosis.specs.House.{share, sharesWhere, heldWhere, inDirection, solidAtEnd, held, endHeld, requiredOf, required, endRequired, endBand, higherBand, storeyFloorType, layout, deterioration, scoreBefore, fullScore, scores, leastOf, leastScore}
+use Rattle.diagnosis.specs.House.{share, sharesWhere, heldWhere, inDirection, solidAtEnd, held, endHeld, requiredOf, required, endRequired, endBand, higherBand, storeyFloorType, layout, deterioration, scoreBefore, fullScore, scores, leastOf, leastScore, houseVerdict}
+use Rattle.diagnosis.specs.Answers.{recordOf}
+use Rattle.diagnosis.specs.Comparison.{scoreAt}
 use Rattle.diagnosis.specs.Report.{resultRows, reportRows, reportBytes, reporting}
 use Rattle.diagnosis.specs.Program.{mostNumbers, tableOf, diagnosing, afterDiagnosing, mostReportBytes, output}
 use Rattle.diagnosis.specs.Worked.{p1Report, p10, sound, heavy, zone100, softGround, overTen, moreMarks, allWorse, figures, sameBands}
@@ -143,3 +145,13 @@ worsened-figures = (
   rw (walls 1 90 1 1 2056 (two-judged .5) .0, walls 1 90 1 1 2056 (two-judged .5) .1),
   rw (walls 2 100 2 2 2056 (two-judged .6) .0, walls 2 100 2 2 2056 (two-judged .6) .1),
 )
+
+-- The records of the best and the worst of them, and where a record has the score of a storey and direction.
+pub worsened-records :
+    (recordOf sound ≡ record { scores = 101 ∷ 200 ∷ 262 ∷ 187 ∷ 0 ∷ 0 ∷ []; count = 4; verdict = 2 })
+    × (recordOf allWorse ≡ record { scores = 37 ∷ 74 ∷ 87 ∷ 62 ∷ 0 ∷ 0 ∷ []; count = 4; verdict = 4 })
+    × (_≡_ {A = List ℕ} (scoreAt 1 1 ∷ scoreAt 1 2 ∷ scoreAt 2 1 ∷ scoreAt 2 2 ∷ scoreAt 3 1 ∷ scoreAt 3 2 ∷ []) (0 ∷ 1 ∷ 2 ∷ 3 ∷ 4 ∷ 5 ∷ []))
+unfolding recordOf over houseVerdict leastScore leastOf verdict
+worsened-records =
+    let scored : List (List ℕ) → List ℕ = λ figures. getD figures 0 [] in
+    (rw (ap scored (worsened-figures .0)), rw (ap scored (worsened-figures .6)), refl)

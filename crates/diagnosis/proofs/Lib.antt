@@ -9,3 +9,4 @@ pub mod Reporting
 pub mod Comparing
 pub mod Examples
 pub mod Pairs
+pub mod Theorems

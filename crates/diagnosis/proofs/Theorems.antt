@@ -1,0 +1,125 @@
+-- The theorems about a house's diagnosis, in the order of document 01. Each is proved where it is cited from; the words of its statement are
+-- defined in specs/. Assumes nothing.
+use mathlib.Core.Path.{_≡_}
+use mathlib.Core.List.{List, [], _∷_}
+use Prim.Native.Nat.{ℕ, _*_, _<_, _≤_}
+use native.Mathlib.Omega.{arith}
+use lib.ListN.{length, getD, replicate}
+use lib.Dec.{eqb}
+use Rattle.answer.specs.declared.Answer.{Answer}
+use Rattle.answer.specs.declared.Answer.the-variants.{Count}
+use Rattle.answer.specs.Told.{told, counted, lent-space-short}
+use Rattle.answer.specs.Houses.{p1Sheet}
+use Rattle.sheet.specs.Sheet.{over, writing, afterWriting}
+use Rattle.survey.specs.Judgement.{judging}
+use Rattle.method.proofs.Examples.{worked, expected}
+use Rattle.diagnosis.specs.House.{higherBand, scoreBefore, fullScore, leastScore}
+use Rattle.diagnosis.specs.Answers.{recordOf, scoring}
+use Rattle.diagnosis.specs.Report.{reportRows, reportLines, reportBytes}
+use Rattle.diagnosis.specs.Program.{tableOf, diagnosing, afterDiagnosing, mostReportBytes, output}
+use Rattle.diagnosis.specs.Comparison.{Worse, InHouse, scoreAt, NoBetter, Applies}
+use Rattle.diagnosis.specs.Worked.{p1Report, p10, sound, heavy, zone100, softGround, overTen, moreMarks, allWorse, figures, sameBands}
+use Rattle.diagnosis.proofs.ScoreLists as score-lists
+use Rattle.diagnosis.proofs.ReportNumbers as report-numbers
+use Rattle.diagnosis.proofs.Reporting as program
+use Rattle.diagnosis.proofs.Comparing as comparing
+use Rattle.diagnosis.proofs.Examples as examples
+use Rattle.diagnosis.proofs.Pairs as pairs
+
+-- Demand 2: the record and the report
+
+-- The least score is at most each score of a house, and is one of them.
+pub least-score-most : (table : List ℕ) (storey direction : ℕ) → InHouse table storey direction → leastScore table ≤ fullScore table storey direction
+least-score-most = score-lists.least-score-most
+
+pub least-score-one : (table : List ℕ) → judging table .number ≡ 0
+    → (storey : ℕ) × (direction : ℕ) × InHouse table storey direction × (leastScore table ≡ fullScore table storey direction)
+least-score-one = score-lists.least-score-one
+
+-- A house's record has each score in its place.
+pub record-score : (table : List ℕ) (storey direction : ℕ) → InHouse table storey direction
+    → getD (recordOf table .scores) (scoreAt storey direction) 0 ≡ fullScore table storey direction
+record-score = score-lists.record-score
+
+-- A table is scored just where the refusal's number is 0, so a host can tell by the number.
+pub scored-by-number : (table : List ℕ) → scoring table .scored ≡ eqb (scoring table .number) 0
+scored-by-number = score-lists.scored-by-number
+
+-- No number of a report is too large for its field, so the report is the sheet that is written of its rows.
+pub report-fits : (table : List ℕ) → judging table .number ≡ 0 → (i : ℕ) → getD (reportRows table) i 0 ≤ 99999999
+report-fits = report-numbers.report-fits
+
+pub report-is-sheet : (table : List ℕ) → judging table .number ≡ 0 → (lent : List ℕ) → 65 * reportLines table ≤ length lent
+    → (counted (65 * reportLines table) ≡ writing (reportRows table) (length lent))
+    × (over lent (reportBytes table) ≡ afterWriting (reportRows table) lent)
+report-is-sheet = report-numbers.report-is-sheet
+
+-- Demand 1: the whole program
+
+-- 9 is told only where the report needs more bytes than were lent, and no report needs more than 455.
+pub short-only : (sheet : List ℕ) (lent : ℕ) → diagnosing sheet lent .number ≡ lent-space-short
+    → (lent < 65 * reportLines (tableOf sheet)) × (65 * reportLines (tableOf sheet) ≤ mostReportBytes)
+short-only = program.short-only
+
+-- No more bytes are counted than were lent.
+pub diagnosed-within : (sheet : List ℕ) (lent : ℕ) (answer : Answer) (count : ℕ) → told answer ≡ diagnosing sheet lent → answer ≡ Count count → count ≤ lent
+diagnosed-within sheet lent answer count diagnosed e = program.diagnosed-count sheet lent diagnosed e .2
+
+-- The program never prints 9, and never more than the longest report.
+pub output-never-short : (sheet : List ℕ) → diagnosing sheet mostReportBytes .number ≡ lent-space-short → ⊥
+output-never-short sheet e = omega (arith, program.short-only sheet mostReportBytes e)
+
+pub output-most : (sheet : List ℕ) → length (output sheet) ≤ mostReportBytes
+output-most = program.output-most
+
+-- Demand 3
+
+-- A house made worse is no better: one claim over all pairs.
+pub comparison : (A B : List ℕ) → Worse A B → NoBetter A B
+comparison = comparing.comparison
+
+-- Pairs to which all of it applies. In each of the first five B is worse in one number alone; in the last in all of them.
+pub worsened :
+    Applies sound heavy × Applies sound zone100 × Applies sound softGround × Applies sound overTen × Applies sound moreMarks × Applies sound allWorse
+worsened = pairs.worsened
+
+-- Their scores fall.
+pub worsened-figures :
+    (figures sound ≡ (101 ∷ 200 ∷ 262 ∷ 187 ∷ []) ∷ sameBands ∷ [])
+    × (figures heavy ≡ (79 ∷ 157 ∷ 183 ∷ 131 ∷ []) ∷ sameBands ∷ [])
+    × (figures zone100 ≡ (91 ∷ 180 ∷ 236 ∷ 168 ∷ []) ∷ sameBands ∷ [])
+    × (figures softGround ≡ (67 ∷ 133 ∷ 175 ∷ 125 ∷ []) ∷ sameBands ∷ [])
+    × (figures overTen ≡ (97 ∷ 192 ∷ 251 ∷ 179 ∷ []) ∷ sameBands ∷ [])
+    × (figures moreMarks ≡ (80 ∷ 158 ∷ 208 ∷ 148 ∷ []) ∷ sameBands ∷ [])
+    × (figures allWorse ≡ (37 ∷ 74 ∷ 87 ∷ 62 ∷ []) ∷ sameBands ∷ [])
+worsened-figures = examples.worsened-figures
+
+-- So does the verdict's record, from 2 to 4; and these are the places of a record.
+pub worsened-records :
+    (recordOf sound ≡ record { scores = 101 ∷ 200 ∷ 262 ∷ 187 ∷ 0 ∷ 0 ∷ []; count = 4; verdict = 2 })
+    × (recordOf allWorse ≡ record { scores = 37 ∷ 74 ∷ 87 ∷ 62 ∷ 0 ∷ 0 ∷ []; count = 4; verdict = 4 })
+    × (_≡_ {A = List ℕ} (scoreAt 1 1 ∷ scoreAt 1 2 ∷ scoreAt 2 1 ∷ scoreAt 2 2 ∷ scoreAt 3 1 ∷ scoreAt 3 2 ∷ []) (0 ∷ 1 ∷ 2 ∷ 3 ∷ 4 ∷ 5 ∷ []))
+worsened-records = examples.worsened-records
+
+-- Without the premise on bands it is false: P10's house in zone 100 is the one in zone 90 made worse, and its score rises from 11 to 14.
+pub p10-worse : Worse (p10 90) (p10 100)
+p10-worse = pairs.p10-worse
+
+pub bands-needed : ((A B : List ℕ) → Worse A B → (storey direction : ℕ) → InHouse A storey direction → fullScore B storey direction ≤ fullScore A storey direction)
+    → ⊥
+bands-needed = pairs.bands-needed
+
+-- Document 01, "Houses worked through", those lettered P: P1 from its sheet to what is printed, with the count of its bytes; P2 to P9, P11 and
+-- more on plain numbers; P10 in zones 90 and 100, before the layout factor, with it, and the higher band in X, which falls from B to A.
+pub houses-worked-out :
+    (
+    (diagnosing p1Sheet 195 .count ∷ [])
+    ∷ afterDiagnosing p1Sheet (replicate 195 0)
+    ∷ output p1Sheet
+    ∷ worked
+    ∷ (scoreBefore (p10 90) 1 1 ∷ fullScore (p10 90) 1 1 ∷ higherBand (p10 90) 1 1 ∷ [])
+    ∷ (scoreBefore (p10 100) 1 1 ∷ fullScore (p10 100) 1 1 ∷ higherBand (p10 100) 1 1 ∷ [])
+    ∷ []
+    )
+    ≡ ((195 ∷ []) ∷ p1Report ∷ p1Report ∷ expected ∷ (16 ∷ 11 ∷ 1 ∷ []) ∷ (14 ∷ 14 ∷ 0 ∷ []) ∷ [])
+houses-worked-out = examples.houses-worked-out
