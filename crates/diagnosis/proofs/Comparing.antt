@@ -94,7 +94,7 @@ module _ (A B : List ℕ) (w : Worse A B) where
   unfolding deterioration within
   worn =
       rw (← present-same)
-      (deterioration-falls (present A) (marked A) (marked B) (eqb-true (bitAnd (marked A) (marked B)) (marked A) (w .marks)) (omega (arith, w .older)))
+      (deterioration-falls (present A) (marked A) (marked B) (eqb-true (bitAnd (marked A) (marked B)) (marked A) (w .marks)) (omega (arith, w .no-lower .older)))
 
   module _ (storey direction : ℕ) (s : InHouse A storey direction) where
     storey-same : (column : ℕ) → column < 8 → cell A storey column ≡ cell B storey column
@@ -115,8 +115,8 @@ module _ (A B : List ℕ) (w : Worse A B) where
     required-of-rises : (parts area : ℕ) → storey ≤ parts → parts ≤ 3 → requiredOf A storey parts area ≤ requiredOf B storey parts area
     unfolding requiredOf
     required-of-rises parts area most few =
-        required-rises (s .some-storey) most few (a .house-inside 2 (omega arith) .0) (omega (arith, w .heavier)) (b .house-inside 2 (omega arith) .1)
-        (le-refl area) (omega (arith, w .higher)) (omega (arith, w .softer)) (le-of-eq narrow-same)
+        required-rises (s .some-storey) most few (a .house-inside 2 (omega arith) .0) (omega (arith, w .no-lower .heavier)) (b .house-inside 2 (omega arith) .1)
+        (le-refl area) (omega (arith, w .no-lower .higher)) (omega (arith, w .no-lower .softer)) (le-of-eq narrow-same)
 
     storey-required : required A storey ≤ required B storey
     unfolding required

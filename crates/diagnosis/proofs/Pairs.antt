@@ -17,9 +17,9 @@ use Rattle.survey.specs.Judgement.{within, judging}
 use Rattle.survey.specs.Walls.{rowsFrom, storeyWalls}
 use Rattle.survey.proofs.Positions.{beyond}
 use Rattle.method.proofs.Tables.{everyBelow, at-every}
-use Rattle.diagnosis.specs.House.{weight, zone, ground, age, marked, higherBand, fullScore, scores, houseVerdict}
+use Rattle.diagnosis.specs.House.{marked, higherBand, fullScore, scores, houseVerdict}
 use Rattle.diagnosis.specs.Answers.{recordOf}
-use Rattle.diagnosis.specs.Comparison.{mayDiffer, Worse, InHouse, Kept, scoreAt, Applies}
+use Rattle.diagnosis.specs.Comparison.{mayDiffer, NoLower, Worse, InHouse, Kept, scoreAt, Applies}
 use Rattle.diagnosis.specs.Worked.{p10, sound, heavy, zone100, softGround, overTen, moreMarks, allWorse, figures, sameBands}
 use Rattle.diagnosis.proofs.Comparing.{comparison}
 use Rattle.diagnosis.proofs.Examples.{zones-known, p10-judged, p10-rises, two-judged, worsened-figures}
@@ -43,16 +43,13 @@ module _
         go (no after) = rw (beyond A row column (omega arith), beyond B row column (omega arith))
 
     -- One is the other made worse, where none of its numbers that differ is lower and it has every mark of the other.
-    made-worse : weight A ≤ weight B → zone A ≤ zone B → ground A ≤ ground B → age A ≤ age B → within (marked A) (marked B) ≡ true → Worse A B
-    made-worse heavier higher softer older marks = record {
+    made-worse : NoLower A B → within (marked A) (marked B) ≡ true → Worse A B
+    made-worse no-lower marks = record {
       A-accepted = ap (λ (t : Told). t .number) A-judged;
       B-accepted = ap (λ (t : Told). t .number) B-judged;
       rows = A-rows ∙ sym B-rows;
       same = rows-same;
-      heavier = heavier;
-      higher = higher;
-      softer = softer;
-      older = older;
+      no-lower = no-lower;
       marks = marks;
     }
 
@@ -62,7 +59,7 @@ pub p10-worse : Worse (p10 90) (p10 100)
 unfolding alike everyBelow mayDiffer wallRows first within
 p10-worse =
     made-worse (p10 90) (p10 100) 10 (p10-judged 90 (zones-known .0)) (p10-judged 100 (zones-known .1)) refl refl refl
-    (omega arith) (omega arith) (omega arith) (omega arith) refl
+    (record { heavier = omega arith; higher = omega arith; softer = omega arith; older = omega arith }) refl
 
 p10-scores : (fullScore (p10 90) 1 1 ≡ 11) × (fullScore (p10 100) 1 1 ≡ 14)
 p10-scores = (ap (λ (l : List ℕ). getD l 1 0) (p10-rises .0), ap (λ (l : List ℕ). getD l 1 0) (p10-rises .1))
@@ -89,10 +86,9 @@ module _
     band-same : (i : ℕ) → getD (getD (figures B) 1 []) i 0 ≡ getD (getD (figures sound) 1 []) i 0
     band-same i = ap (λ (l : List (List ℕ)). getD (getD l 1 []) i 0) b ∙ sym (ap (λ (l : List (List ℕ)). getD (getD l 1 []) i 0) (worsened-figures .0))
 
-    applies : weight sound ≤ weight B → zone sound ≤ zone B → ground sound ≤ ground B → age sound ≤ age B → within (marked sound) (marked B) ≡ true
-        → Applies sound B
-    applies heavier higher softer older marks = record {
-      worse = made-worse sound B 14 (two-judged .0) accepted refl long passed heavier higher softer older marks;
+    applies : NoLower sound B → within (marked sound) (marked B) ≡ true → Applies sound B
+    applies no-lower marks = record {
+      worse = made-worse sound B 14 (two-judged .0) accepted refl long passed no-lower marks;
       kept = λ storey direction s.
           one-or-two
           (λ storey. Kept sound B storey direction)
@@ -106,10 +102,10 @@ pub worsened :
     Applies sound heavy × Applies sound zone100 × Applies sound softGround × Applies sound overTen × Applies sound moreMarks × Applies sound allWorse
 unfolding p10-worse
 worsened = (
-  applies heavy (two-judged .1) refl refl (worsened-figures .1) (omega arith) (omega arith) (omega arith) (omega arith) refl,
-  applies zone100 (two-judged .2) refl refl (worsened-figures .2) (omega arith) (omega arith) (omega arith) (omega arith) refl,
-  applies softGround (two-judged .3) refl refl (worsened-figures .3) (omega arith) (omega arith) (omega arith) (omega arith) refl,
-  applies overTen (two-judged .4) refl refl (worsened-figures .4) (omega arith) (omega arith) (omega arith) (omega arith) refl,
-  applies moreMarks (two-judged .5) refl refl (worsened-figures .5) (omega arith) (omega arith) (omega arith) (omega arith) refl,
-  applies allWorse (two-judged .6) refl refl (worsened-figures .6) (omega arith) (omega arith) (omega arith) (omega arith) refl,
+  applies heavy (two-judged .1) refl refl (worsened-figures .1) (record { heavier = omega arith; higher = omega arith; softer = omega arith; older = omega arith }) refl,
+  applies zone100 (two-judged .2) refl refl (worsened-figures .2) (record { heavier = omega arith; higher = omega arith; softer = omega arith; older = omega arith }) refl,
+  applies softGround (two-judged .3) refl refl (worsened-figures .3) (record { heavier = omega arith; higher = omega arith; softer = omega arith; older = omega arith }) refl,
+  applies overTen (two-judged .4) refl refl (worsened-figures .4) (record { heavier = omega arith; higher = omega arith; softer = omega arith; older = omega arith }) refl,
+  applies moreMarks (two-judged .5) refl refl (worsened-figures .5) (record { heavier = omega arith; higher = omega arith; softer = omega arith; older = omega arith }) refl,
+  applies allWorse (two-judged .6) refl refl (worsened-figures .6) (record { heavier = omega arith; higher = omega arith; softer = omega arith; older = omega arith }) refl,
 )

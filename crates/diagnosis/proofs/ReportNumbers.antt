@@ -19,7 +19,7 @@ use Rattle.method.proofs.Tables.{AllAtMost, all-at, all-append}
 use Rattle.method.proofs.Bands.{layout-most}
 use Rattle.method.proofs.Fractions.{Bounded, deterioration-bounded}
 use Rattle.method.proofs.Comparisons.{verdict-most}
-use Rattle.diagnosis.specs.House.{age, present, marked, layout, deterioration, scores, leastOf, leastScore, assessment}
+use Rattle.diagnosis.specs.House.{age, present, marked, layout, deterioration, fullScore, scores, leastOf, leastScore, assessment}
 use Rattle.diagnosis.specs.Report.{hundredths, resultRow, storeyRows, resultRows, verdictRow, reportRows, reportLines, reportBytes}
 use Rattle.diagnosis.proofs.AcceptedTables.{storeys-few, required-within}
 use Rattle.diagnosis.proofs.Sums.{storey-held-most}
@@ -59,7 +59,7 @@ module _ (table : List ℕ) (h : judging table .number ≡ 0) where
       let number : storey ≤ 99999999 = omega (arith, storeys-few table h) in
       let holds = storey-held-most table h storey direction in
       let needs = required-within table h some most in
-      let score = le-trans (score-small table storey direction) (lit≤ tt) in
+      let score : fullScore table storey direction ≤ 99999999 = le-trans (score-small table storey direction) (lit≤ tt) in
       (lit≤ tt, (number, (omega arith, (omega (arith, holds), (omega (arith, needs), (layout-small storey direction, (factor-small, (score, tt))))))))
 
   storey-small : (below : ℕ) → below < storeys table → Small (storeyRows table (below + 1))

@@ -49,12 +49,6 @@ two-rows lent x y long first second one other =
       append-nil,
     )
 
--- They are the storey's, where they are made of what is worked out for it.
-pub storey-rows : (table : List ℕ) (storey : ℕ) {x y : Assessment} {factor : Fraction}
-    → x ≡ assessment table storey 1 → y ≡ assessment table storey 2 → factor ≡ deterioration table
-    → resultRow storey 1 x factor ++ resultRow storey 2 y factor ≡ storeyRows table storey
-storey-rows table storey x y factor = rw (x, y, factor)
-
 -- The rows of so many storeys.
 abbrev pub rowsOf : List ℕ → ℕ → List ℕ
 rowsOf table count = joined count (λ below. storeyRows table (below + 1))
@@ -62,9 +56,14 @@ rowsOf table count = joined count (λ below. storeyRows table (below + 1))
 pub rows-of-length : (table : List ℕ) (count : ℕ) → length (rowsOf table count) ≡ 16 * count
 rows-of-length table count = joined-length 16 (λ below. storeyRows table (below + 1)) (λ i. refl) count
 
-pub storey-more : (table lent : List ℕ) (below : ℕ) {written storey : List ℕ} → 16 * below + 16 ≤ length lent → written ≡ over lent (rowsOf table below)
-    → storey ≡ storeyRows table (below + 1) → putMid (16 * below) (16 * below + 16 - 16 * below) written storey ≡ over lent (rowsOf table (below + 1))
-storey-more table lent below room e rows = joined-over 16 (λ below. storeyRows table (below + 1)) (λ i. refl) lent _ _ below room e rows
+-- One storey more, whose two rows are made of what is worked out for it.
+pub storey-more : (table lent : List ℕ) (below : ℕ) {written storey : List ℕ} {x y : Assessment} {factor : Fraction}
+    → 16 * below + 16 ≤ length lent → written ≡ over lent (rowsOf table below)
+    → storey ≡ resultRow (below + 1) 1 x factor ++ resultRow (below + 1) 2 y factor
+    → x ≡ assessment table (below + 1) 1 → y ≡ assessment table (below + 1) 2 → factor ≡ deterioration table
+    → putMid (16 * below) (16 * below + 16 - 16 * below) written storey ≡ over lent (rowsOf table (below + 1))
+storey-more table lent below room e rows x y factor =
+    joined-over 16 (λ below. storeyRows table (below + 1)) (λ i. refl) lent _ _ below room e (rows ∙ rw (x, y, factor))
 
 pub results-length : (table : List ℕ) → length (resultRows table) ≡ 16 * storeys table
 unfolding resultRows

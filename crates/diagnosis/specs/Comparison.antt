@@ -24,6 +24,13 @@ partsMayDiffer column = eqb column 2
 unfoldable pub mayDiffer : List ℕ → ℕ → ℕ → Bool
 mayDiffer table row column = eqb row 0 && houseMayDiffer column || eqb row (partsRow table) && partsMayDiffer column
 
+-- Of the numbers in the house row that may differ none is lower in B: heavier, in a higher zone, on softer ground, past ten years.
+pub record NoLower (A B : List ℕ) : Type 0 where
+  pub heavier : weight A ≤ weight B
+  pub higher : zone A ≤ zone B
+  pub softer : ground A ≤ ground B
+  pub older : age A ≤ age B
+
 -- B is A, or A made worse.
 pub record Worse (A B : List ℕ) : Type 0 where
   -- Scoring refuses neither.
@@ -32,11 +39,8 @@ pub record Worse (A B : List ℕ) : Type 0 where
   -- Equally many rows, and equal numbers in them but for those.
   pub rows : length A ≡ length B
   pub same : (row column : ℕ) → column < 8 → mayDiffer A row column ≡ false → cell A row column ≡ cell B row column
-  -- None of which is lower in B: heavier, in a higher zone, on softer ground, past ten years.
-  pub heavier : weight A ≤ weight B
-  pub higher : zone A ≤ zone B
-  pub softer : ground A ≤ ground B
-  pub older : age A ≤ age B
+  -- None of which is lower in B.
+  pub no-lower : NoLower A B
   -- In B every mark of A is marked.
   pub marks : within (marked A) (marked B) ≡ true
 

@@ -14,7 +14,7 @@ use Rattle.survey.specs.Table.{storeys}
 use Rattle.diagnosis.specs.declared.assessment.Assessment.{Assessment}
 use Rattle.diagnosis.specs.Report.{resultRows}
 use Rattle.diagnosis.specs.House.{scores, leastOf, leastScore}
-use Rattle.diagnosis.proofs.Rows.{storey-rows, rowsOf, rows-of-length, storey-more}
+use Rattle.diagnosis.proofs.Rows.{rowsOf, rows-of-length, storey-more}
 use Rattle.diagnosis.proofs.Assessments.{row-fits}
 use Rattle.diagnosis.proofs.ScoreLists.{scoresOf, least-score-more}
 use Rattle.diagnosis.proofs.AcceptedTables.{storeys-few, house-inside}
@@ -118,7 +118,7 @@ loop-again c =
     let factor = at-loop .before .before .deterioration .ensures in
     let x = ap (λ (f : Assessment). f .score) (found .0) in
     let y = ap (λ (f : Assessment). f .score) (found .1) in
-    let written = storey-more (now (start .args .table)) (now (start .args .rows)) n (omega arith) (inv .4) (at-storey .fill-storey .ensures ∙ storey-rows _ (n + 1) (found .0) (found .1) factor) in (
+    let written = storey-more (now (start .args .table)) (now (start .args .rows)) n (omega arith) (inv .4) (at-storey .fill-storey .ensures) (found .0) (found .1) factor in (
       inv .0,
       search needs,
       inv .2,
