@@ -3,11 +3,14 @@
 // Uses `answer` alone. Document 01, "The sheet and the table" and "What a refused sheet is told"; the
 // definitions stand in specs/Table.antt, Ranges.antt, Judgement.antt and Walls.antt, in that order.
 // What an accepted table is made of is in proofs/Acceptance.antt.
+pub mod columns;
 mod fault;
 mod judgement;
 mod rows;
+mod table;
 mod walls;
 
 pub use judgement::judge;
+pub use table::cell;
 pub use walls::storey_run;
 pub use walls::storey_walls;
