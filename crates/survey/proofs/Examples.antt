@@ -11,8 +11,9 @@ use Rattle.survey.specs.Table.{wallRows}
 use Rattle.survey.specs.Ranges.{zone}
 use Rattle.survey.specs.Judgement.{_then_, test, outside, leftmost, wrongColumn, houseFault, storeyFault, endsFault, storeyBefore, wallFault, within, partsFault, rowFault, judging}
 use Rattle.survey.specs.Walls.{rowsFrom, rowsWhere, isWallOf, storeyWalls}
-use Rattle.survey.proofs.Acceptance.{Accepted, accepted}
-use Rattle.survey.proofs.Shown.{walls-lacking}
+use Rattle.survey.specs.Acceptance.{Accepted}
+use Rattle.survey.proofs.Acceptance.{accepted}
+use Rattle.survey.proofs.StoreyWalls.{walls-lacking}
 
 pub p1-judged : judging p1 ≡ counted 11
 unfolding judging rowsIn first rowFault houseFault storeyFault endsFault wallFault partsFault wallRows zone storeyBefore within wrongColumn leftmost outside test _then_

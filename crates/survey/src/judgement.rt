@@ -24,8 +24,8 @@ ghost use Rattle.survey.specs.Judgement.{rowFault, judging};
 
 // The row after the walls, where the parts are due. `first` is the first wall's row.
 fn parts_row(table: &[u32], rows: usize, first: usize) -> usize
-    requires { ⌜ (8 * rows ≡ length (now table)) × (0 < rows) × (rows ≤ mostRows) ⌝ }
-    requires { ⌜ (first ≡ firstWall (now table)) × (first ≤ 10) ⌝ }
+    requires rows { ⌜ (8 * rows ≡ length (now table)) × (0 < rows) ⌝ }
+    requires first { ⌜ (first ≡ firstWall (now table)) × (first ≤ 10) ⌝ }
     ensures { λ r. ⌜ r ≡ partsRow (now (table .entry)) ⌝ }
 {
     let mut walls = 0;

@@ -18,8 +18,7 @@ use answer::NO_PARTS;
 use answer::ROW_OUT_OF_ORDER;
 use answer::TOO_MANY_WALLS;
 ghost use mathlib.Core.Path.{_≡_};
-ghost use Prim.Native.Nat.{_<_, _≤_, _+_, _*_};
-ghost use lib.ListN.{length};
+ghost use Prim.Native.Nat.{_<_, _≤_};
 ghost use Rattle.survey.specs.Table.{cell, firstWall};
 ghost use Rattle.survey.specs.Ranges.{zone, isOpening, wallColumns};
 ghost use Rattle.survey.specs.Judgement.{columnsFault, houseFault, storeyFault, endsFault, storeyBefore, wallFault, partsFault};
@@ -153,8 +152,8 @@ fn wall_columns_fault(table: &[u32], storeys: u32, row: usize) -> Fault
 
 // A wall row. `storeys` are the house's, and `first` is the first wall's row.
 pub(crate) fn wall_fault(table: &[u32], storeys: u32, first: usize, row: usize) -> Fault
-    requires { ⌜ storeys ≡ cell (now table) 0 1 ⌝ }
-    requires { ⌜ (first ≡ firstWall (now table)) × (first ≤ 10) × (first ≤ row) ⌝ }
+    requires storeys { ⌜ storeys ≡ cell (now table) 0 1 ⌝ }
+    requires first { ⌜ (first ≡ firstWall (now table)) × (first ≤ 10) × (first ≤ row) ⌝ }
     ensures { λ r. ⌜ r ≡ wallFault (now (table .entry)) row ⌝ }
 {
     if cell(table, row, STOREY) < storey_before(table, first, row) {

@@ -6,7 +6,7 @@ use crate::table::is_wall;
 use answer::Answer;
 use answer::ROW;
 ghost use mathlib.Core.Path.{_≡_};
-ghost use Prim.Native.Nat.{_≤_, _+_, _*_, _/_};
+ghost use Prim.Native.Nat.{_≤_, _/_};
 ghost use lib.ListN.{length};
 ghost use Rattle.survey.specs.Walls.{isWallOf, storeyWalls, runStart, runLength, storeyRun};
 

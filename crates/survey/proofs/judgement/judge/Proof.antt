@@ -11,9 +11,9 @@ use Rattle.answer.specs.Length.{Whole}
 use Rattle.answer.proofs.Lengths.{rows-whole}
 use Rattle.survey.specs.Judgement.{faulty, rowFault, houseFault}
 use Rattle.survey.proofs.Faults.{not-faulty}
-use Rattle.survey.proofs.Cases.{row-house}
-use Rattle.survey.proofs.Judged.{judging-length, judging-fault, judging-short, judging-accepted}
-use Rattle.survey.proofs.Inside.{Clean, house-storeys}
+use Rattle.survey.proofs.RowFaults.{row-house}
+use Rattle.survey.proofs.Judging.{judging-length, judging-fault, judging-short, judging-accepted}
+use Rattle.survey.proofs.FaultlessRows.{Clean, house-storeys}
 use Rattle.survey.proofs.judgement.judge.Statement.{statement}
 use Rattle.survey.proofs.judgement.judge.Tie as tie
 
@@ -66,7 +66,7 @@ parts-row-requires c κs =
     let at-if1 = c .before .before .before .before in
     let size = whole at-if1 in
     let house = house-storeys _ (clean-house (c .before)) in
-    ((size .whole, size .some, size .most), (ap (λ (n : ℕ). 3 * n + 1) (c .cell .ensures), omega (arith, house, c .cell .ensures)))
+    ((size .whole, size .some), (ap (λ (n : ℕ). 3 * n + 1) (c .cell .ensures), omega (arith, house, c .cell .ensures)))
 
 loop-holds : tie.Need-loop-holds Inv-loop μ-loop
 loop-holds c =

@@ -5,7 +5,7 @@ use native.Mathlib.Omega.{arith}
 use denote.Ref.{now}
 use borrow.Author.Needs.{needs}
 use Rattle.survey.specs.Table.{storeys, firstWall, partsRow}
-use Rattle.survey.proofs.Cases.{row-storey, row-ends, row-wall, row-parts, row-after}
+use Rattle.survey.proofs.RowFaults.{row-storey, row-ends, row-wall, row-parts, row-after}
 use Rattle.survey.proofs.judgement.row_fault.Statement.{statement}
 use Rattle.survey.proofs.judgement.row_fault.Tie as tie
 

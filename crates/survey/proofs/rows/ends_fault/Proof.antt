@@ -5,7 +5,7 @@ use denote.Ref.{now}
 use borrow.Author.Needs.{needs}
 use Rattle.survey.specs.Ranges.{endsColumns}
 use Rattle.survey.specs.Judgement.{columnsFault}
-use Rattle.survey.proofs.Cases.{ends-columns, ends-exceed, ends-right}
+use Rattle.survey.proofs.RowFaults.{ends-columns, ends-exceed, ends-right}
 use Rattle.survey.proofs.rows.ends_fault.Statement.{statement}
 use Rattle.survey.proofs.rows.ends_fault.Tie as tie
 

@@ -5,7 +5,7 @@ use denote.Ref.{now}
 use borrow.Author.Needs.{needs}
 use Rattle.survey.specs.Table.{cell}
 use Rattle.survey.specs.Judgement.{storeyBefore}
-use Rattle.survey.proofs.Cases.{wall-falls, wall-columns, wall-too-many, wall-right}
+use Rattle.survey.proofs.RowFaults.{wall-falls, wall-columns, wall-too-many, wall-right}
 use Rattle.survey.proofs.rows.wall_fault.Statement.{statement}
 use Rattle.survey.proofs.rows.wall_fault.Tie as tie
 
