@@ -10,3 +10,4 @@ pub mod StoreyWalls
 pub mod AlikeTables
 pub mod Sets
 pub mod Examples
+pub mod Theorems
