@@ -21,33 +21,11 @@ use Rattle.answer.proofs.Lengths.{rows-whole, rows-counted}
 use Rattle.survey.specs.Table.{cell, storeys, endsStorey, firstWall, wallRows, partsRow, rowsDue}
 use Rattle.survey.specs.Ranges.{zone, houseColumns, storeyColumns, endsColumns, wallColumns, partsColumns}
 use Rattle.survey.specs.Judgement.{fault, none, faulty, test, _then_, columnsFault, houseFault, storeyFault, endsFault, storeyBefore, mostWalls, wallFault, within, partsFault, rowFault, judging}
+use Rattle.survey.specs.Acceptance.{Inside, Accepted}
 use Rattle.survey.proofs.Faults.{not-faulty}
-use Rattle.survey.proofs.Cases.{ends-right, wall-right, parts-right, row-house, row-storey, row-ends, row-wall, row-parts, row-after}
-use Rattle.survey.proofs.Judged.{judging-accepted}
-use Rattle.survey.proofs.Inside.{Clean, Inside, then-clean, test-clean, columns-inside, inside-columns, house-storeys}
-
--- What an accepted table is made of.
-pub record Accepted (table : List ℕ) : Type 0 where
-  -- Whole rows, not too many, and the parts row is the last.
-  pub sizes : Whole 8 (length table) (rowsDue table)
-  -- Every row's columns lie in their ranges: the house,
-  pub house-inside : Inside (houseColumns table) table 0
-  -- a storey, which stands in the row of its number,
-  pub storey-inside : (row : ℕ) → 0 < row → row ≤ storeys table → Inside (storeyColumns row) table row
-  -- the ends, between the storeys and the walls,
-  pub ends-inside : (row : ℕ) → storeys table < row → row < firstWall table → Inside (endsColumns table row) table row
-  -- a wall, between the ends and the parts,
-  pub wall-inside : (row : ℕ) → firstWall table ≤ row → row < partsRow table → Inside (wallColumns table row) table row
-  -- and the parts.
-  pub parts-inside : Inside partsColumns table (partsRow table)
-  -- The two ends' areas are at most their storey's.
-  pub ends-fit : (row : ℕ) → storeys table < row → row < firstWall table → cell table row 3 + cell table row 4 ≤ cell table (endsStorey table row) 2
-  -- The walls' storeys never fall, and there are at most 300 walls.
-  pub sorted : (row : ℕ) → firstWall table ≤ row → row + 1 < partsRow table → cell table row 1 ≤ cell table (row + 1) 1
-  pub few : wallRows table ≤ mostWalls
-  -- Every mark is on a part that is present, and some part is.
-  pub marks-present : within (cell table (partsRow table) 2) (cell table (partsRow table) 1) ≡ true
-  pub some-present : 0 < cell table (partsRow table) 1
+use Rattle.survey.proofs.RowFaults.{ends-right, wall-right, parts-right, row-house, row-storey, row-ends, row-wall, row-parts, row-after}
+use Rattle.survey.proofs.Judging.{judging-accepted}
+use Rattle.survey.proofs.FaultlessRows.{Clean, then-clean, test-clean, columns-inside, inside-columns, house-storeys}
 
 -- Every row is without a fault, and the parts row is among them.
 record Faultless (table : List ℕ) (rows : ℕ) : Type 0 where

@@ -1,30 +1,139 @@
--- Acceptance can be met: document 01's P1 is accepted, and its walls are shown, by computation. Assumes nothing.
+-- The definitions worked through, by computation: document 01's P1 and a house of two storeys are accepted, where their rows stand, which
+-- walls each storey has, and a table for each refusal. Assumes nothing.
 use mathlib.Core.Path.{_≡_, refl, ap}
-use mathlib.Core.List.{[]}
-use Prim.Native.Nat.{ℕ}
+use mathlib.Core.List.{List, [], _∷_, map}
+use Prim.Native.Nat.{ℕ, _%_, _<_, _≤_, zero-le}
+use native.Mathlib.Nat.{le-refl}
 use native.Mathlib.Omega.{arith}
-use Rattle.answer.specs.Houses.{p1}
-use Rattle.answer.specs.Told.{Told, counted}
+use lib.Bits.{and-mask}
+use lib.Dec.{lit≤}
+use lib.ListN.{set}
+use borrow.Author.Tests.{eq-eqb, le-ltb}
+use Rattle.answer.specs.Houses.{p1, twoStoreys}
+use Rattle.answer.specs.Told.{Told, counted, refusal}
 use Rattle.answer.specs.First.{first}
 use Rattle.answer.specs.Length.{rowsIn}
-use Rattle.survey.specs.Table.{wallRows}
-use Rattle.survey.specs.Ranges.{zone}
-use Rattle.survey.specs.Judgement.{_then_, test, outside, leftmost, wrongColumn, houseFault, storeyFault, endsFault, storeyBefore, wallFault, within, partsFault, rowFault, judging}
-use Rattle.survey.specs.Walls.{rowsFrom, rowsWhere, isWallOf, storeyWalls}
-use Rattle.survey.proofs.Acceptance.{Accepted, accepted}
-use Rattle.survey.proofs.Shown.{walls-lacking}
+use Rattle.survey.specs.Table.{cell, storeys, firstEnds, endsRow, endsStorey, endsDirection, firstWall, wallRows, partsRow, rowsDue}
+use Rattle.survey.specs.Ranges as ranges
+use Rattle.survey.specs.Judgement.{none, _then_, test, outside, leftmost, wrongColumn, houseFault, storeyFault, endsFault, storeyBefore, wallFault, within, partsFault, rowFault, judging}
+use Rattle.survey.specs.Acceptance.{Accepted}
+use Rattle.survey.specs.Walls.{rowsFrom, rowsWhere, isWallOf, storeyWalls, runStart, runLength, storeyRun}
+use Rattle.survey.proofs.Acceptance.{accepted, made-accepted}
+use Rattle.survey.proofs.StoreyWalls.{run-is-walls, walls-refused, walls-lacking}
 
+-- P1 is accepted, with its eleven rows.
 pub p1-judged : judging p1 ≡ counted 11
-unfolding judging rowsIn first rowFault houseFault storeyFault endsFault wallFault partsFault wallRows zone storeyBefore within wrongColumn leftmost outside test _then_
+unfolding judging rowsIn first rowFault houseFault storeyFault endsFault wallFault partsFault wallRows ranges.zone storeyBefore within wrongColumn leftmost outside test _then_
 p1-judged = refl
 
-pub p1-accepted : Accepted p1
-p1-accepted = accepted p1 (ap (λ (t : Told). t .number) p1-judged)
+-- P1 with a number changed, or two: the refusals, with row and column.
+pub refusals-told : map judging (set p1 8 4 ∷ set p1 3 95 ∷ set p1 19 3001 ∷ set p1 81 8183 ∷ set (set p1 81 0) 82 0 ∷ [])
+    ≡ refusal 3 2 1 ∷ refusal 4 1 4 ∷ refusal 6 3 4 ∷ refusal 7 11 3 ∷ refusal 8 11 2 ∷ []
+unfolding p1-judged
+refusals-told = refl
 
--- Its six walls are those of the ground storey, and it has no other storey.
-p1-walls : storeyWalls p1 1 ≡ rowsFrom p1 4 6
-unfolding storeyWalls rowsWhere rowsFrom isWallOf
-p1-walls = rw p1-judged
+-- A house of two storeys is accepted, with its fourteen rows, whatever the five numbers are that may differ in demand 3, each in its range.
+-- They stand in the house row and the parts row. The other rows are computed.
+module _ (weight zone ground age marked : ℕ) where
+  house-clean : (1 ≤ weight) × (weight ≤ 3) → ranges.zone zone ≡ zone → (1 ≤ ground) × (ground ≤ 2) → (1 ≤ age) × (age ≤ 2)
+      → houseFault (twoStoreys weight zone ground age marked) ≡ none
+  unfolding houseFault wrongColumn leftmost outside first test _then_
+  house-clean w z g a =
+      rw (
+        z,
+        le-ltb weight 1 (w .0),
+        le-ltb 3 weight (w .1),
+        le-ltb zone zone (le-refl zone),
+        le-ltb ground 1 (g .0),
+        le-ltb 2 ground (g .1),
+        le-ltb age 1 (a .0),
+        le-ltb 2 age (a .1),
+      )
 
-p1-other-walls : (storey : ℕ) → (storey ≡ 1 → ⊥) → storeyWalls p1 storey ≡ []
-p1-other-walls storey other = walls-lacking p1 (ap (λ (t : Told). t .number) p1-judged) storey (λ some most. other (omega arith))
+  parts-clean : marked ≤ 8191 → partsFault (twoStoreys weight zone ground age marked) 13 ≡ none
+  unfolding partsFault wrongColumn leftmost outside first test _then_ within
+  parts-clean m =
+      let all : marked % 8192 ≡ marked = omega arith in
+      rw (le-ltb marked 0 zero-le, le-ltb 8191 marked m, and-mask marked 13, eq-eqb (marked % 8192) marked all)
+
+  pub two-judged : (1 ≤ weight) × (weight ≤ 3) → ranges.zone zone ≡ zone → (1 ≤ ground) × (ground ≤ 2) → (1 ≤ age) × (age ≤ 2)
+      → marked ≤ 8191
+      → judging (twoStoreys weight zone ground age marked) ≡ counted 14
+  unfolding judging rowsIn first rowFault storeyFault endsFault wallFault wallRows storeyBefore wrongColumn leftmost outside test _then_
+  two-judged w z g a m = rw (house-clean w z g a, parts-clean m)
+
+-- Document 01's zones.
+pub zones-known : (ranges.zone 70 ≡ 70) × (ranges.zone 80 ≡ 80) × (ranges.zone 90 ≡ 90) × (ranges.zone 100 ≡ 100)
+unfolding ranges.zone
+zones-known = (refl, refl, refl, refl)
+
+-- One of these houses, and the same in a zone that is none, which is refused.
+pub two-counted : judging (twoStoreys 1 90 1 1 2048) ≡ counted 14
+two-counted = two-judged 1 90 1 1 2048 (lit≤ tt, lit≤ tt) (zones-known .2) (lit≤ tt, lit≤ tt) (lit≤ tt, lit≤ tt) (lit≤ tt)
+
+pub two-refused : judging (twoStoreys 1 95 1 1 2048) ≡ refusal 4 1 4
+unfolding p1-judged
+two-refused = refl
+
+-- Numbers of a table by row and column, from 0; beyond a table, be it whole rows or not, they are 0.
+pub cells-read :
+    cell p1 1 3 ∷ cell p1 10 1 ∷ cell p1 11 0 ∷ cell (7 ∷ []) 0 0 ∷ cell (7 ∷ []) 0 1 ∷ []
+    ≡ 5000 ∷ 8191 ∷ 0 ∷ 7 ∷ 0 ∷ []
+cells-read = refl
+
+-- Where the rows of the house of two storeys stand, from 0: two storeys, the first ends in row 3, those of storey 2 in direction 1 in row 5,
+-- the first of six walls in row 7, the parts in row 13, and that is the last of 14.
+pub rows-stand :
+    let two = twoStoreys 1 90 1 1 2048 in
+    storeys two ∷ firstEnds two ∷ endsRow two 2 1 ∷ endsStorey two 5 ∷ endsDirection two 5
+    ∷ firstWall two ∷ wallRows two ∷ partsRow two ∷ rowsDue two
+    ∷ []
+    ≡ 2 ∷ 3 ∷ 5 ∷ 2 ∷ 1 ∷ 7 ∷ 6 ∷ 13 ∷ 14 ∷ []
+unfolding wallRows first
+rows-stand = refl
+
+-- Its walls of storeys 0 to 3, and the first run of each. Refused, it shows none, though it has the same wall rows.
+pub two-walls :
+    let two = twoStoreys 1 90 1 1 2048 in
+    let refused = twoStoreys 1 95 1 1 2048 in
+    let asked : List ℕ = 0 ∷ 1 ∷ 2 ∷ 3 ∷ [] in
+    let ground : List ℕ =
+    4 ∷ 1 ∷ 1 ∷ 1 ∷ 50 ∷ 5000 ∷ 1 ∷ 1
+    ∷ 4 ∷ 1 ∷ 1 ∷ 2 ∷ 50 ∷ 6000 ∷ 1 ∷ 1
+    ∷ 4 ∷ 1 ∷ 2 ∷ 2 ∷ 50 ∷ 12000 ∷ 1 ∷ 1
+    ∷ [] in
+    let upper : List ℕ =
+    4 ∷ 2 ∷ 1 ∷ 1 ∷ 50 ∷ 3500 ∷ 1 ∷ 1
+    ∷ 4 ∷ 2 ∷ 1 ∷ 3 ∷ 50 ∷ 3500 ∷ 1 ∷ 1
+    ∷ 4 ∷ 2 ∷ 2 ∷ 2 ∷ 50 ∷ 5000 ∷ 1 ∷ 1
+    ∷ [] in
+    (map (storeyWalls two) asked ≡ [] ∷ ground ∷ upper ∷ [] ∷ [])
+    × (map (storeyRun two) asked ≡ [] ∷ ground ∷ upper ∷ [] ∷ [])
+    × (map (storeyWalls refused) asked ≡ [] ∷ [] ∷ [] ∷ [] ∷ [])
+    × (map (storeyRun refused) asked ≡ [] ∷ ground ∷ upper ∷ [] ∷ [])
+unfolding storeyWalls rowsWhere rowsFrom isWallOf storeyRun runStart runLength first
+two-walls = (rw two-counted, refl, rw two-refused, refl)
+
+-- A run ends where another storey's wall comes: here the second of the ground storey's three is made one.
+pub run-ends : storeyRun (set (twoStoreys 1 90 1 1 2048) 65 2) 1 ≡ 4 ∷ 1 ∷ 1 ∷ 1 ∷ 50 ∷ 5000 ∷ 1 ∷ 1 ∷ []
+unfolding two-walls
+run-ends = refl
+
+-- The theorems of acceptance and of walls, where their premises hold.
+two-number : judging (twoStoreys 1 90 1 1 2048) .number ≡ 0
+two-number = ap (λ (t : Told). t .number) two-counted
+
+pub two-accepted : Accepted (twoStoreys 1 90 1 1 2048)
+two-accepted = accepted (twoStoreys 1 90 1 1 2048) two-number
+
+pub two-made : judging (twoStoreys 1 90 1 1 2048) ≡ counted (rowsDue (twoStoreys 1 90 1 1 2048))
+two-made = made-accepted (twoStoreys 1 90 1 1 2048) two-accepted
+
+pub two-run : (storey : ℕ) → storeyRun (twoStoreys 1 90 1 1 2048) storey ≡ storeyWalls (twoStoreys 1 90 1 1 2048) storey
+two-run storey = run-is-walls (twoStoreys 1 90 1 1 2048) two-number storey
+
+pub two-lacking : (storey : ℕ) → 2 < storey → storeyWalls (twoStoreys 1 90 1 1 2048) storey ≡ []
+two-lacking storey above = walls-lacking (twoStoreys 1 90 1 1 2048) two-number storey (λ some most. omega arith)
+
+pub two-refused-walls : (storey : ℕ) → storeyWalls (twoStoreys 1 95 1 1 2048) storey ≡ []
+two-refused-walls storey = walls-refused (twoStoreys 1 95 1 1 2048) storey (λ h. omega (arith, ap (λ (t : Told). t .number) two-refused))

@@ -1,11 +1,13 @@
+-- The laws about a table's rows that other crates cite, and the theorems.
 pub mod Faults
 pub mod Positions
-pub mod Cases
-pub mod Judged
-pub mod Numbers
-pub mod Inside
+pub mod RowFaults
+pub mod Judging
+pub mod RefusalNumbers
+pub mod FaultlessRows
 pub mod Acceptance
-pub mod Shown
-pub mod Alike
+pub mod StoreyWalls
+pub mod AlikeTables
 pub mod Sets
 pub mod Examples
+pub mod Theorems

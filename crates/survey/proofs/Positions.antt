@@ -9,11 +9,11 @@ use Rattle.answer.proofs.Places.{first-is}
 use Rattle.survey.specs.Table.{cell, storeys, endsRow, endsStorey, endsDirection, isWall, firstWall, wallRows, partsRow}
 
 -- Beyond a table every number is 0, and no row is a wall.
-pub beyond : (table : List ℕ) (row column : ℕ) → length table ≤ 8 * row → cell table row column ≡ 0
-beyond table row column h = List·getD-eq-default table 0 {n = 8 * row + column} (omega arith)
+pub beyond : (table : List ℕ) (row column : ℕ) → length table ≤ 8 * row + column → cell table row column ≡ 0
+beyond table row column h = List·getD-eq-default table 0 {n = 8 * row + column} h
 
 pub no-wall-beyond : (table : List ℕ) (row : ℕ) → length table ≤ 8 * row → not (isWall table row) ≡ true
-no-wall-beyond table row h = rw (beyond table row 0 h)
+no-wall-beyond table row h = rw (beyond table row 0 (omega arith))
 
 -- The first row after the walls before it.
 module _ (table : List ℕ) {first walls : ℕ} (e : first ≡ firstWall table) where

@@ -27,7 +27,8 @@ isWallOf table storey row = isWall table row && eqb (cell table row 1) storey
 unfoldable pub storeyWalls : List ℕ → ℕ → List ℕ
 storeyWalls table storey = cond (accepts (judging table)) (rowsWhere (isWallOf table storey) table (length table / 8)) []
 
--- The first unbroken run of a storey's wall rows, in any table. Where the table is accepted, these are all its walls (proofs/Shown.antt).
+-- The first unbroken run of a storey's wall rows, in any table: where it starts, how many rows it has, and the rows. Where the table is
+-- accepted, these are all its walls (proofs/Theorems.antt, `run-is-walls`).
 unfoldable pub runStart : List ℕ → ℕ → ℕ
 runStart table storey = first (isWallOf table storey) (length table / 8)
 

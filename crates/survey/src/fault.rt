@@ -1,11 +1,9 @@
-// A row's numbers, its fault, and its numbers against the ranges of its columns.
+// A row's fault, and its numbers against the ranges of its columns.
+use crate::table::cell;
 use answer::OUT_OF_RANGE;
 use answer::ROW;
 use answer::ROW_OUT_OF_ORDER;
 ghost use mathlib.Core.Path.{_≡_};
-ghost use Prim.Native.Nat.{_<_, _≤_, _+_, _*_};
-ghost use lib.ListN.{length};
-ghost use Rattle.survey.specs.Table.{cell, isWall};
 ghost use Rattle.survey.specs.Judgement.{fault, none, leftmost, wrongColumn};
 
 // A row's fault: a refusal's number and column; number 0 where the row has none.
@@ -29,26 +27,8 @@ pub(crate) fn no_fault() -> Fault
     }
 }
 
-// The number in a row and a column, both from 0.
-pub(crate) fn cell(table: &[u32], row: usize, column: usize) -> u32
-    requires { ⌜ 8 * row + 8 ≤ length (now table) ⌝ }
-    requires { ⌜ column < 8 ⌝ }
-    ensures { λ r. ⌜ r ≡ cell (now (table .entry)) row column ⌝ }
-{
-    table[ROW * row + column]
-}
-
-// Whether a row is a wall's.
-pub(crate) fn is_wall(table: &[u32], row: usize) -> bool
-    requires { ⌜ 8 * row + 8 ≤ length (now table) ⌝ }
-    ensures { λ r. ⌜ r ≡ isWall (now (table .entry)) row ⌝ }
-{
-    cell(table, row, 0) == 4
-}
-
 // The leftmost column of a row whose number lies outside its range; 8 where none does.
 fn leftmost(table: &[u32], row: usize, low: [u32; 8], high: [u32; 8]) -> usize
-    requires { ⌜ 8 * row + 8 ≤ length (now table) ⌝ }
     ensures { λ r. ⌜ r ≡ leftmost low high (now (table .entry)) row ⌝ }
 {
     let mut column = 0;
@@ -73,7 +53,6 @@ pub(crate) fn columns_fault(
     high: [u32; 8],
     due: usize,
 ) -> Fault
-    requires { ⌜ 8 * row + 8 ≤ length (now table) ⌝ }
     ensures { λ r. ⌜ r ≡ wrongColumn due (leftmost low high (now (table .entry)) row) ⌝ }
 {
     let column = leftmost(table, row, low, high);

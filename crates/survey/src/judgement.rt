@@ -1,13 +1,14 @@
 // A table judged: the count of its rows, or the refusal.
+use crate::columns::STOREYS;
 use crate::fault::Fault;
-use crate::fault::cell;
 use crate::fault::fault_at;
-use crate::fault::is_wall;
 use crate::rows::ends_fault;
 use crate::rows::house_fault;
 use crate::rows::parts_fault;
 use crate::rows::storey_fault;
 use crate::rows::wall_fault;
+use crate::table::cell;
+use crate::table::is_wall;
 use answer::Answer;
 use answer::ROW;
 use answer::ROW_OUT_OF_ORDER;
@@ -23,8 +24,8 @@ ghost use Rattle.survey.specs.Judgement.{rowFault, judging};
 
 // The row after the walls, where the parts are due. `first` is the first wall's row.
 fn parts_row(table: &[u32], rows: usize, first: usize) -> usize
-    requires { ⌜ (8 * rows ≡ length (now table)) × (0 < rows) × (rows ≤ mostRows) ⌝ }
-    requires { ⌜ (first ≡ firstWall (now table)) × (first ≤ 10) ⌝ }
+    requires rows { ⌜ (8 * rows ≡ length (now table)) × (0 < rows) ⌝ }
+    requires first { ⌜ (first ≡ firstWall (now table)) × (first ≤ 10) ⌝ }
     ensures { λ r. ⌜ r ≡ partsRow (now (table .entry)) ⌝ }
 {
     let mut walls = 0;
@@ -40,7 +41,6 @@ fn parts_row(table: &[u32], rows: usize, first: usize) -> usize
 // The fault of a row after the house's, by the place where it stands.
 fn row_fault(table: &[u32], storeys: usize, parts: usize, row: usize) -> Fault
     requires { ⌜ (storeys ≡ cell (now table) 0 1) × (storeys ≤ 3) × (parts ≡ partsRow (now table)) × (0 < row) ⌝ }
-    requires { ⌜ 8 * row + 8 ≤ length (now table) ⌝ }
     ensures { λ r. ⌜ r ≡ rowFault (now (table .entry)) row ⌝ }
 {
     if row <= storeys {
@@ -87,7 +87,7 @@ pub fn judge(table: &[u32]) -> Answer
     if 0 < house.number {
         return refused(house, 0);
     }
-    let storeys = cell(table, 0, 1) as usize;
+    let storeys = cell(table, 0, STOREYS) as usize;
     let parts = parts_row(table, rows, 3 * storeys + 1);
     let mut row = 1;
     while row < rows {

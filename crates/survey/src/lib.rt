@@ -1,13 +1,16 @@
 // A table's rows: which refusal a table gets, if any, and a storey's walls as a part of it.
 //
 // Uses `answer` alone. Document 01, "The sheet and the table" and "What a refused sheet is told"; the
-// definitions stand in specs/Table.antt, Ranges.antt, Judgement.antt and Walls.antt, in that order.
-// What an accepted table is made of is in proofs/Acceptance.antt.
+// definitions stand in specs/Table.antt, Ranges.antt, Judgement.antt, Acceptance.antt and Walls.antt, in
+// that order. The theorems are in proofs/Theorems.antt. The columns have names, in src/columns.rt.
+pub mod columns;
 mod fault;
 mod judgement;
 mod rows;
+mod table;
 mod walls;
 
 pub use judgement::judge;
+pub use table::cell;
 pub use walls::storey_run;
 pub use walls::storey_walls;

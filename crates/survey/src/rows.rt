@@ -1,18 +1,24 @@
 // The faults of each kind of row. The ranges stand as specs/Ranges.antt has them, the least numbers of
 // the eight columns and then the greatest.
+use crate::columns::END_AREA;
+use crate::columns::FLOOR_AREA;
+use crate::columns::MARKED;
+use crate::columns::PRESENT;
+use crate::columns::STOREY;
+use crate::columns::WALL_TYPE;
+use crate::columns::ZONE;
 use crate::fault::Fault;
-use crate::fault::cell;
 use crate::fault::columns_fault;
 use crate::fault::fault_at;
 use crate::fault::no_fault;
+use crate::table::cell;
 use answer::ENDS_EXCEED_STOREY;
 use answer::MARK_ON_ABSENT_PART;
 use answer::NO_PARTS;
 use answer::ROW_OUT_OF_ORDER;
 use answer::TOO_MANY_WALLS;
 ghost use mathlib.Core.Path.{_≡_};
-ghost use Prim.Native.Nat.{_<_, _≤_, _+_, _*_};
-ghost use lib.ListN.{length};
+ghost use Prim.Native.Nat.{_<_, _≤_};
 ghost use Rattle.survey.specs.Table.{cell, firstWall};
 ghost use Rattle.survey.specs.Ranges.{zone, isOpening, wallColumns};
 ghost use Rattle.survey.specs.Judgement.{columnsFault, houseFault, storeyFault, endsFault, storeyBefore, wallFault, partsFault};
@@ -38,10 +44,9 @@ fn zone(number: u32) -> u32
 
 // The house row.
 pub(crate) fn house_fault(table: &[u32]) -> Fault
-    requires { ⌜ 8 ≤ length (now table) ⌝ }
     ensures { λ r. ⌜ r ≡ houseFault (now (table .entry)) ⌝ }
 {
-    let zone = zone(cell(table, 0, 3));
+    let zone = zone(cell(table, 0, ZONE));
     columns_fault(
         table,
         0,
@@ -54,7 +59,6 @@ pub(crate) fn house_fault(table: &[u32]) -> Fault
 // A storey's row, which is the row of its number.
 pub(crate) fn storey_fault(table: &[u32], row: usize) -> Fault
     requires { ⌜ row ≤ 3 ⌝ }
-    requires { ⌜ 8 * row + 8 ≤ length (now table) ⌝ }
     ensures { λ r. ⌜ r ≡ storeyFault (now (table .entry)) row ⌝ }
 {
     let storey = row as u32;
@@ -77,7 +81,6 @@ fn wide(number: u32) -> usize
 // A row of ends. `storeys` are the house's.
 pub(crate) fn ends_fault(table: &[u32], storeys: usize, row: usize) -> Fault
     requires { ⌜ (storeys ≡ cell (now table) 0 1) × (storeys ≤ 3) × (storeys < row) × (row ≤ 9) ⌝ }
-    requires { ⌜ 8 * row + 8 ≤ length (now table) ⌝ }
     ensures { λ r. ⌜ r ≡ endsFault (now (table .entry)) row ⌝ }
 {
     let ends = row - (storeys + 1);
@@ -95,7 +98,9 @@ pub(crate) fn ends_fault(table: &[u32], storeys: usize, row: usize) -> Fault
     if 0 < found.number {
         return found;
     }
-    if wide(cell(table, at, 2)) < wide(cell(table, row, 3)) + wide(cell(table, row, 4)) {
+    let area = wide(cell(table, at, FLOOR_AREA));
+    let ends_area = wide(cell(table, row, END_AREA)) + wide(cell(table, row, END_AREA + 1));
+    if area < ends_area {
         return fault_at(ENDS_EXCEED_STOREY, 4);
     }
     no_fault()
@@ -114,22 +119,20 @@ fn is_opening(number: u32) -> bool
 // The storey of the wall before; 0 before the first wall.
 fn storey_before(table: &[u32], first: usize, row: usize) -> u32
     requires { ⌜ (first ≡ firstWall (now table)) × (first ≤ row) ⌝ }
-    requires { ⌜ 8 * row + 8 ≤ length (now table) ⌝ }
     ensures { λ r. ⌜ r ≡ storeyBefore (now (table .entry)) row ⌝ }
 {
     if row == first {
         return 0;
     }
-    cell(table, row - 1, 1)
+    cell(table, row - 1, STOREY)
 }
 
 // Refusals 3 and 4 for a wall whose storey does not fall. An opening has neither strength nor joint.
 fn wall_columns_fault(table: &[u32], storeys: u32, row: usize) -> Fault
     requires { ⌜ storeys ≡ cell (now table) 0 1 ⌝ }
-    requires { ⌜ 8 * row + 8 ≤ length (now table) ⌝ }
     ensures { λ r. ⌜ r ≡ columnsFault 1 (wallColumns (now (table .entry)) row) (now (table .entry)) row ⌝ }
 {
-    if is_opening(cell(table, row, 7)) {
+    if is_opening(cell(table, row, WALL_TYPE)) {
         return columns_fault(
             table,
             row,
@@ -149,12 +152,11 @@ fn wall_columns_fault(table: &[u32], storeys: u32, row: usize) -> Fault
 
 // A wall row. `storeys` are the house's, and `first` is the first wall's row.
 pub(crate) fn wall_fault(table: &[u32], storeys: u32, first: usize, row: usize) -> Fault
-    requires { ⌜ storeys ≡ cell (now table) 0 1 ⌝ }
-    requires { ⌜ (first ≡ firstWall (now table)) × (first ≤ 10) × (first ≤ row) ⌝ }
-    requires { ⌜ 8 * row + 8 ≤ length (now table) ⌝ }
+    requires storeys { ⌜ storeys ≡ cell (now table) 0 1 ⌝ }
+    requires first { ⌜ (first ≡ firstWall (now table)) × (first ≤ 10) × (first ≤ row) ⌝ }
     ensures { λ r. ⌜ r ≡ wallFault (now (table .entry)) row ⌝ }
 {
-    if cell(table, row, 1) < storey_before(table, first, row) {
+    if cell(table, row, STOREY) < storey_before(table, first, row) {
         return fault_at(ROW_OUT_OF_ORDER, 1);
     }
     let found = wall_columns_fault(table, storeys, row);
@@ -169,7 +171,6 @@ pub(crate) fn wall_fault(table: &[u32], storeys: u32, first: usize, row: usize) 
 
 // The parts row.
 pub(crate) fn parts_fault(table: &[u32], row: usize) -> Fault
-    requires { ⌜ 8 * row + 8 ≤ length (now table) ⌝ }
     ensures { λ r. ⌜ r ≡ partsFault (now (table .entry)) row ⌝ }
 {
     let found = columns_fault(
@@ -182,8 +183,8 @@ pub(crate) fn parts_fault(table: &[u32], row: usize) -> Fault
     if 0 < found.number {
         return found;
     }
-    let present = cell(table, row, 1);
-    let marked = cell(table, row, 2);
+    let present = cell(table, row, PRESENT);
+    let marked = cell(table, row, MARKED);
     if marked & present != marked {
         return fault_at(MARK_ON_ABSENT_PART, 3);
     }

@@ -1,23 +1,23 @@
 // A storey's walls, as a part of the lent table.
-use crate::fault::cell;
-use crate::fault::is_wall;
+use crate::columns::STOREY;
 use crate::judgement::judge;
+use crate::table::cell;
+use crate::table::is_wall;
 use answer::Answer;
 use answer::ROW;
 ghost use mathlib.Core.Path.{_≡_};
-ghost use Prim.Native.Nat.{_≤_, _+_, _*_, _/_};
+ghost use Prim.Native.Nat.{_≤_, _/_};
 ghost use lib.ListN.{length};
 ghost use Rattle.survey.specs.Walls.{isWallOf, storeyWalls, runStart, runLength, storeyRun};
 
 // Whether a row is a wall of a storey.
 fn is_wall_of(table: &[u32], storey: u32, row: usize) -> bool
-    requires { ⌜ 8 * row + 8 ≤ length (now table) ⌝ }
     ensures { λ r. ⌜ r ≡ isWallOf (now (table .entry)) storey row ⌝ }
 {
     if !is_wall(table, row) {
         return false;
     }
-    cell(table, row, 1) == storey
+    cell(table, row, STOREY) == storey
 }
 
 // The first row that is a wall of a storey, or the count of rows.

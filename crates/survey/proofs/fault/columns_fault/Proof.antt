@@ -1,7 +1,7 @@
 -- `survey::fault::columns_fault` meets its contract. Assumes nothing.
 use mathlib.Core.Path.{_∙_}
 use borrow.Author.Needs.{needs}
-use Rattle.survey.proofs.Cases.{column-due, column-outside, column-none}
+use Rattle.survey.proofs.RowFaults.{column-due, column-outside, column-none}
 use Rattle.survey.proofs.fault.columns_fault.Statement.{statement}
 use Rattle.survey.proofs.fault.columns_fault.Tie as tie
 

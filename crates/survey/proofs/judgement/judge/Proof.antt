@@ -11,9 +11,9 @@ use Rattle.answer.specs.Length.{Whole}
 use Rattle.answer.proofs.Lengths.{rows-whole}
 use Rattle.survey.specs.Judgement.{faulty, rowFault, houseFault}
 use Rattle.survey.proofs.Faults.{not-faulty}
-use Rattle.survey.proofs.Cases.{row-house}
-use Rattle.survey.proofs.Judged.{judging-length, judging-fault, judging-short, judging-accepted}
-use Rattle.survey.proofs.Inside.{Clean, house-storeys}
+use Rattle.survey.proofs.RowFaults.{row-house}
+use Rattle.survey.proofs.Judging.{judging-length, judging-fault, judging-short, judging-accepted}
+use Rattle.survey.proofs.FaultlessRows.{Clean, house-storeys}
 use Rattle.survey.proofs.judgement.judge.Statement.{statement}
 use Rattle.survey.proofs.judgement.judge.Tie as tie
 
@@ -33,7 +33,7 @@ whole : (c : tie.Else1 Inv-loop μ-loop) → Whole 8 (length (now (c .before .be
 whole c = rows-whole _ _ (c .before .rows-in .ensures) (c .if1 .left)
 
 house-fault-requires : tie.Need-house-fault-requires Inv-loop μ-loop
-house-fault-requires c κs = omega (arith, whole c)
+house-fault-requires c κs = search needs
 
 refused-requires : tie.Need-refused-requires Inv-loop μ-loop
 refused-requires c κs = search needs
@@ -50,7 +50,7 @@ clean-house : (c : tie.Else2 Inv-loop μ-loop) → Clean (houseFault (now (c .be
 clean-house c = rw (← c .before .before .house-fault .ensures) (c .if2 .left)
 
 cell-requires : tie.Need-cell-requires Inv-loop μ-loop
-cell-requires c κs = (omega (arith, whole (c .before .before .before)), omega arith)
+cell-requires c κs = search needs
 
 cast-storeys : tie.Need-cast-storeys Inv-loop μ-loop
 cast-storeys c = search needs
@@ -66,7 +66,7 @@ parts-row-requires c κs =
     let at-if1 = c .before .before .before .before in
     let size = whole at-if1 in
     let house = house-storeys _ (clean-house (c .before)) in
-    ((size .whole, size .some, size .most), (ap (λ (n : ℕ). 3 * n + 1) (c .cell .ensures), omega (arith, house, c .cell .ensures)))
+    ((size .whole, size .some), (ap (λ (n : ℕ). 3 * n + 1) (c .cell .ensures), omega (arith, house, c .cell .ensures)))
 
 loop-holds : tie.Need-loop-holds Inv-loop μ-loop
 loop-holds c =
@@ -77,10 +77,8 @@ loop-holds c =
 row-fault-requires : tie.Need-row-fault-requires Inv-loop μ-loop
 row-fault-requires c κs =
     let at-cell = c .before .before .before in
-    let at-if2 = at-cell .before in
-    let at-if1 = at-if2 .before .before .before in
-    let house = house-storeys _ (clean-house at-if2) in
-    ((at-cell .cell .ensures, omega (arith, house, at-cell .cell .ensures), c .before .before .parts-row .ensures, c .before .loop .inv .0), omega (arith, whole at-if1))
+    let house = house-storeys _ (clean-house (at-cell .before)) in
+    (at-cell .cell .ensures, omega (arith, house, at-cell .cell .ensures), c .before .before .parts-row .ensures, c .before .loop .inv .0)
 
 refused-requires-2 : tie.Need-refused-requires-2 Inv-loop μ-loop
 refused-requires-2 c κs = omega (arith, whole (c .before .before .before .before .before .before .before .before .before .before))

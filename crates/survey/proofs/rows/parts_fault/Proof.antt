@@ -5,7 +5,7 @@ use denote.Ref.{now}
 use lib.Bits.{bitAnd}
 use borrow.Author.Needs.{needs}
 use Rattle.survey.specs.Table.{cell}
-use Rattle.survey.proofs.Cases.{parts-columns, parts-absent, parts-none, parts-right}
+use Rattle.survey.proofs.RowFaults.{parts-columns, parts-absent, parts-none, parts-right}
 use Rattle.survey.proofs.rows.parts_fault.Statement.{statement}
 use Rattle.survey.proofs.rows.parts_fault.Tie as tie
 

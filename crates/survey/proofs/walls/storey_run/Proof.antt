@@ -5,7 +5,7 @@ use denote.Ref.{now}
 use lib.ListN.{length}
 use borrow.Author.Needs.{needs}
 use Rattle.survey.specs.Walls.{storeyRun}
-use Rattle.survey.proofs.Shown.{run-start-most, run-length-most, rows-lent}
+use Rattle.survey.proofs.StoreyWalls.{run-start-most, run-length-most, rows-lent}
 use Rattle.survey.proofs.walls.storey_run.Statement.{statement}
 use Rattle.survey.proofs.walls.storey_run.Tie as tie
 

@@ -2,7 +2,7 @@
 use mathlib.Core.Path.{sym, _∙_}
 use borrow.Author.Needs.{needs}
 use Rattle.survey.proofs.Acceptance.{judge-refused, judge-accepted}
-use Rattle.survey.proofs.Shown.{walls-refused, run-is-walls}
+use Rattle.survey.proofs.StoreyWalls.{walls-refused, run-is-walls}
 use Rattle.survey.proofs.walls.storey_walls.Statement.{statement}
 use Rattle.survey.proofs.walls.storey_walls.Tie as tie
 

@@ -16,7 +16,7 @@ use Rattle.answer.proofs.Parts.{part-element}
 use Rattle.survey.specs.Table.{cell, isWall, firstWall, wallRows, partsRow}
 use Rattle.survey.specs.Judgement.{judging}
 use Rattle.survey.specs.Walls.{rowsFrom, rowsWhere, isWallOf, storeyWalls}
-use Rattle.survey.proofs.Shown.{rows-length}
+use Rattle.survey.proofs.StoreyWalls.{rows-length}
 
 module _
     (A B : List ℕ) (long : length A ≡ length B)

@@ -17,7 +17,8 @@ use Rattle.answer.proofs.Places.{before-first, at-first, first-most}
 use Rattle.survey.specs.Table.{cell, isWall, storeys, firstWall, partsRow, rowsDue}
 use Rattle.survey.specs.Judgement.{mostWalls, judging}
 use Rattle.survey.specs.Walls.{rowsFrom, rowsWhere, isWallOf, storeyWalls, runStart, runLength, storeyRun}
-use Rattle.survey.proofs.Acceptance.{Accepted, accepted}
+use Rattle.survey.specs.Acceptance.{Accepted}
+use Rattle.survey.proofs.Acceptance.{accepted}
 
 -- Rows as the code lends them, from a start to an end.
 pub rows-lent : (table : List ℕ) (row count : ℕ) → take (8 * row + 8 * count - 8 * row) (drop (8 * row) table) ≡ rowsFrom table row count

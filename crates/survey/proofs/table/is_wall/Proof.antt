@@ -1,7 +1,7 @@
--- `survey::fault::is_wall` meets its contract. Assumes nothing.
+-- `survey::table::is_wall` meets its contract. Assumes nothing.
 use borrow.Author.Needs.{needs}
-use Rattle.survey.proofs.fault.is_wall.Statement.{statement}
-use Rattle.survey.proofs.fault.is_wall.Tie as tie
+use Rattle.survey.proofs.table.is_wall.Statement.{statement}
+use Rattle.survey.proofs.table.is_wall.Tie as tie
 
 cell-requires : tie.Need-cell-requires
 cell-requires c κs = search needs

@@ -15,8 +15,9 @@ use Rattle.survey.specs.declared.fault.Fault.{Fault}
 use Rattle.survey.specs.Table.{cell, storeys}
 use Rattle.survey.specs.Ranges.{Range, lows, highs, houseColumns}
 use Rattle.survey.specs.Judgement.{fault, none, _then_, test, outside, leftmost, wrongColumn, columnsFault, houseFault}
+use Rattle.survey.specs.Acceptance.{Inside}
 use Rattle.survey.proofs.Faults.{inside}
-use Rattle.survey.proofs.Cases.{column-none}
+use Rattle.survey.proofs.RowFaults.{column-none}
 
 -- No fault.
 abbrev pub Clean : Fault → Type 0
@@ -41,11 +42,7 @@ or-false : (a b : Bool) → (a || b) ≡ false → (a ≡ false) × (b ≡ false
 or-false true b e = absurd (subst T e tt)
 or-false false b e = (refl, e)
 
--- Every number of a row lies in its column's range.
-abbrev pub Inside : List Range → List ℕ → ℕ → Type 0
-Inside ranges table row =
-    (column : ℕ) → column < 8 → (getD (lows ranges) column 0 ≤ cell table row column) × (cell table row column ≤ getD (highs ranges) column 0)
-
+-- Every number of a row without refusal 3 or 4 lies in its column's range.
 pub columns-inside : (due : ℕ) (ranges : List Range) (table : List ℕ) (row : ℕ) → Clean (columnsFault due ranges table row) → Inside ranges table row
 unfolding wrongColumn leftmost outside
 columns-inside due ranges table row h column inside =

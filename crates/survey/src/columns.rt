@@ -1,0 +1,51 @@
+// The columns of a table's rows, from 0, by the words of document 01, "The sheet and the table".
+
+// Every row's: its kind, and in all rows but the house's and the parts' its storey.
+pub const KIND: usize = 0;
+
+pub const STOREY: usize = 1;
+
+// The house row:
+pub const STOREYS: usize = 1;
+
+pub const WEIGHT: usize = 2;
+
+pub const ZONE: usize = 3;
+
+pub const GROUND: usize = 4;
+
+pub const FOUNDATION: usize = 5;
+
+pub const AGE: usize = 6;
+
+// A storey's row:
+pub const FLOOR_AREA: usize = 2;
+
+pub const SHORT_SIDE: usize = 3;
+
+pub const FLOOR_TYPE: usize = 4;
+
+pub const VOID: usize = 5;
+
+// An ends row, those of end a; end b's follow each:
+pub const END_AREA: usize = 3;
+
+pub const PART_STOREYS: usize = 5;
+
+// A wall's row, and its direction an ends row's too:
+pub const DIRECTION: usize = 2;
+
+pub const PLACE: usize = 3;
+
+pub const STRENGTH: usize = 4;
+
+pub const LENGTH: usize = 5;
+
+pub const JOINT: usize = 6;
+
+pub const WALL_TYPE: usize = 7;
+
+// The parts row:
+pub const PRESENT: usize = 1;
+
+pub const MARKED: usize = 2;
