@@ -7,7 +7,8 @@ use native.Mathlib.Omega.{arith}
 use lib.ListN.{length}
 use Rattle.survey.specs.Table.{cell, storeys, endsRow, partsRow, rowsDue}
 use Rattle.survey.specs.Judgement.{judging}
-use Rattle.survey.proofs.Acceptance.{Accepted, accepted, accepted-zone}
+use Rattle.survey.specs.Acceptance.{Accepted}
+use Rattle.survey.proofs.Acceptance.{accepted, accepted-zone}
 use Rattle.survey.proofs.Positions.{ends-above, ends-before}
 use Rattle.method.specs.Required.{mostRequired}
 use Rattle.method.proofs.Requirements.{narrow-most, required-most}

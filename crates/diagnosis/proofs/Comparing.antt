@@ -13,10 +13,10 @@ use Rattle.survey.specs.Table.{cell, storeys, endsRow, endsStorey, partsRow}
 use Rattle.survey.specs.Ranges.{endsColumns}
 use Rattle.survey.specs.Judgement.{within}
 use Rattle.survey.specs.Walls.{storeyWalls}
-use Rattle.survey.proofs.Acceptance.{Accepted, accepted, accepted-zone}
-use Rattle.survey.proofs.Inside.{Inside}
+use Rattle.survey.specs.Acceptance.{Accepted, Inside}
+use Rattle.survey.proofs.Acceptance.{accepted, accepted-zone}
 use Rattle.survey.proofs.Positions.{ends-storey}
-use Rattle.survey.proofs.Alike.{parts-row-alike, walls-alike}
+use Rattle.survey.proofs.AlikeTables.{parts-row-alike, walls-alike}
 use Rattle.method.specs.Required.{narrowFactor}
 use Rattle.method.proofs.Requirements.{narrow-least, required-rises, required-positive}
 use Rattle.method.proofs.Bands.{floor-most}

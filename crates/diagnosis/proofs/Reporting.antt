@@ -18,7 +18,7 @@ use Rattle.sheet.proofs.Lists.{over-length, over-front}
 use Rattle.sheet.proofs.Sheets.{numbers-length, line-length, lines-length, printing-rows}
 use Rattle.sheet.proofs.Answers.{Readable, accepted-readable, readable-accepted, never-short, read-refused, read-accepted}
 use Rattle.survey.specs.Judgement.{judging}
-use Rattle.survey.proofs.Numbers.{judging-known}
+use Rattle.survey.proofs.RefusalNumbers.{judging-known}
 use Rattle.survey.proofs.Acceptance.{judge-refused}
 use Rattle.diagnosis.specs.Program.{mostNumbers, tableOf, diagnosing, afterDiagnosing, mostReportBytes, output, outputBytes}
 use Rattle.diagnosis.specs.Report.{reportRows, reportLines, reportBytes, reporting, afterReporting, refusalRow, refusalLine}

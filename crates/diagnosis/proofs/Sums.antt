@@ -11,8 +11,9 @@ use lib.Dec.{lit≤}
 use Rattle.survey.specs.Table.{cell, storeys}
 use Rattle.survey.specs.Judgement.{judging}
 use Rattle.survey.specs.Walls.{rowsFrom, storeyWalls}
-use Rattle.survey.proofs.Acceptance.{Accepted, accepted}
-use Rattle.survey.proofs.Shown.{Shown, shown, rows-cell, rows-length}
+use Rattle.survey.specs.Acceptance.{Accepted}
+use Rattle.survey.proofs.Acceptance.{accepted}
+use Rattle.survey.proofs.StoreyWalls.{Shown, shown, rows-cell, rows-length}
 use Rattle.method.specs.Held.{heldStrength, mostHeld}
 use Rattle.method.proofs.Tables.{AllAtMost, all-append}
 use Rattle.method.proofs.Shares.{mostShare, share-most, held-append, held-most}

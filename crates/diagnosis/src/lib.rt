@@ -7,7 +7,6 @@
 // before any number of it is used. The comparison of two houses is stated in specs/Comparison.antt and
 // proved in proofs/Comparing.antt.
 mod assessment;
-mod numbers;
 mod program;
 mod reports;
 mod scores;

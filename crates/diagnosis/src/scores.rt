@@ -1,10 +1,10 @@
 // A table scored: its record, or the refusal.
 use crate::assessment::assess_storey;
 use crate::assessment::deterioration;
-use crate::numbers::STOREYS;
-use crate::numbers::cell;
 use answer::Answer;
 use method::verdict;
+use survey::cell;
+use survey::columns::STOREYS;
 use survey::judge;
 ghost use mathlib.Core.Path.{_≡_};
 ghost use Prim.Native.Nat.{min};

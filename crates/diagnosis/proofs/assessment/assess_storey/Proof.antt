@@ -1,7 +1,7 @@
 -- `diagnosis::assessment::assess_storey` meets its contract: the first run of a storey's walls is all of them. Assumes nothing.
 use mathlib.Core.Path.{_∙_}
 use native.Mathlib.Omega.{arith}
-use Rattle.survey.proofs.Shown.{run-is-walls}
+use Rattle.survey.proofs.StoreyWalls.{run-is-walls}
 use Rattle.diagnosis.proofs.AcceptedTables.{storeys-few}
 use borrow.Author.Needs.{needs}
 use Rattle.diagnosis.proofs.assessment.assess_storey.Statement.{statement}

@@ -10,13 +10,13 @@ sub-parts : tie.Need-sub-parts
 sub-parts c = omega (arith, house-inside _ (c .before .pre))
 
 cell-requires : tie.Need-cell-requires
-cell-requires c κs = (rw (parts-last _ (c .before .pre)) (row-inside _ (c .before .pre) _ (omega arith)), omega arith)
+cell-requires c κs = search needs
 
 cell-requires-2 : tie.Need-cell-requires-2
-cell-requires-2 c κs = (rw (parts-last _ (c .before .before .pre)) (row-inside _ (c .before .before .pre) _ (omega arith)), omega arith)
+cell-requires-2 c κs = search needs
 
 cell-requires-3 : tie.Need-cell-requires-3
-cell-requires-3 c κs = (house-inside _ (c .before .before .before .pre), omega arith)
+cell-requires-3 c κs = search needs
 
 deterioration-factor-requires : tie.Need-deterioration-factor-requires
 deterioration-factor-requires c κs = search needs

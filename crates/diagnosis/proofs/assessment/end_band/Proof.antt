@@ -12,7 +12,7 @@ use Rattle.diagnosis.proofs.assessment.end_band.Statement.{statement}
 use Rattle.diagnosis.proofs.assessment.end_band.Tie as tie
 
 cell-requires : tie.Need-cell-requires
-cell-requires c κs = (house-inside _ (c .before .pre .0), omega arith)
+cell-requires c κs = search needs
 
 cast-storeys : tie.Need-cast-storeys
 cast-storeys c = search needs
@@ -45,13 +45,13 @@ ends-row-inside c =
     (ends-inside _ (start .pre .0) (start .args .storey) (start .args .direction) (start .pre .1 .0 .1) (start .pre .1 .0 .0) (start .pre .1 .1 .0 .1))
 
 cell-requires-2 : tie.Need-cell-requires-2
-cell-requires-2 c κs = (ends-row-inside c, omega arith)
+cell-requires-2 c κs = search needs
 
 add-cell-2 : tie.Need-add-cell-2
 add-cell-2 c = search needs
 
 cell-requires-3 : tie.Need-cell-requires-3
-cell-requires-3 c κs = (ends-row-inside (c .before), omega arith)
+cell-requires-3 c κs = search needs
 
 required-of-requires : tie.Need-required-of-requires
 required-of-requires c κs = search needs

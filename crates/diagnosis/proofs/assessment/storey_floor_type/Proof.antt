@@ -7,10 +7,10 @@ use Rattle.diagnosis.proofs.assessment.storey_floor_type.Statement.{sta
 use Rattle.diagnosis.proofs.assessment.storey_floor_type.Tie as tie
 
 cell-requires : tie.Need-cell-requires
-cell-requires c κs = (storey-inside _ (c .before .pre .0) (c .before .pre .1 .1), omega arith)
+cell-requires c κs = search needs
 
 cell-requires-2 : tie.Need-cell-requires-2
-cell-requires-2 c κs = (storey-inside _ (c .before .before .pre .0) (c .before .before .pre .1 .1), omega arith)
+cell-requires-2 c κs = search needs
 
 floor-type-requires : tie.Need-floor-type-requires
 floor-type-requires c κs = search needs

@@ -7,10 +7,10 @@ use Rattle.diagnosis.proofs.assessment.storey_required.Statement.{state
 use Rattle.diagnosis.proofs.assessment.storey_required.Tie as tie
 
 cell-requires : tie.Need-cell-requires
-cell-requires c κs = (house-inside _ (c .before .pre .0), omega arith)
+cell-requires c κs = search needs
 
 cell-requires-2 : tie.Need-cell-requires-2
-cell-requires-2 c κs = (storey-inside _ (c .before .before .pre .0) (c .before .before .pre .1 .1), omega arith)
+cell-requires-2 c κs = search needs
 
 required-of-requires : tie.Need-required-of-requires
 required-of-requires c κs = search needs

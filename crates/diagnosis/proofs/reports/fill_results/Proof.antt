@@ -33,7 +33,7 @@ deterioration-requires : tie.Need-deterioration-requires Inv-loop μ-loop
 deterioration-requires c κs = search needs
 
 cell-requires : tie.Need-cell-requires Inv-loop μ-loop
-cell-requires c κs = (house-inside _ (c .before .before .before .pre .0), omega arith)
+cell-requires c κs = search needs
 
 cast-storeys : tie.Need-cast-storeys Inv-loop μ-loop
 cast-storeys c = search needs

@@ -29,7 +29,7 @@ filled-length c =
     (omega (arith, results-length (now (start .args .table)), storeys-few _ (start .pre .0), start .pre .1 .0)) ∙ start .pre .1 .0
 
 cell-requires : tie.Need-cell-requires
-cell-requires c κs = (house-inside _ (c .before .before .before .before .before .before .before .pre .0), omega arith)
+cell-requires c κs = search needs
 
 cast-results : tie.Need-cast-results
 cast-results c = search needs

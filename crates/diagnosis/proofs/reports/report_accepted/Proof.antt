@@ -11,7 +11,7 @@ use Rattle.diagnosis.proofs.reports.report_accepted.Statement.{statemen
 use Rattle.diagnosis.proofs.reports.report_accepted.Tie as tie
 
 cell-requires : tie.Need-cell-requires
-cell-requires c κs = (house-inside _ (c .before .before .pre), omega arith)
+cell-requires c κs = search needs
 
 cast-lines : tie.Need-cast-lines
 cast-lines c = search needs

@@ -22,7 +22,7 @@ abbrev μ-loop : tie.MeasureT-loop
 μ-loop table storeys factor scores₀ least₀ below₀ scores least below = storeys - below
 
 cell-requires : tie.Need-cell-requires Inv-loop μ-loop
-cell-requires c κs = (house-inside _ (c .before .pre), omega arith)
+cell-requires c κs = search needs
 
 cast-storeys : tie.Need-cast-storeys Inv-loop μ-loop
 cast-storeys c = search needs

@@ -10,25 +10,25 @@ cast-number : tie.Need-cast-number
 cast-number c = omega (arith, storeys-few _ (c .before .pre .0))
 
 cell-requires : tie.Need-cell-requires
-cell-requires c κs = (house-inside _ (c .before .pre .0), omega arith)
+cell-requires c κs = search needs
 
 cell-requires-2 : tie.Need-cell-requires-2
-cell-requires-2 c κs = (storey-inside _ (c .before .before .pre .0) (c .before .before .pre .1 .1), omega arith)
+cell-requires-2 c κs = search needs
 
 narrow-factor-requires : tie.Need-narrow-factor-requires
 narrow-factor-requires c κs = search needs
 
 cell-requires-3 : tie.Need-cell-requires-3
-cell-requires-3 c κs = (house-inside _ (c .before .before .before .before .pre .0), omega arith)
+cell-requires-3 c κs = search needs
 
 cast-zone : tie.Need-cast-zone
 cast-zone c = omega (arith, c .cell3 .ensures, zone-most _ (c .before .before .before .before .before .pre .0))
 
 cell-requires-4 : tie.Need-cell-requires-4
-cell-requires-4 c κs = (house-inside _ (c .before .before .before .before .before .pre .0), omega arith)
+cell-requires-4 c κs = search needs
 
 cell-requires-5 : tie.Need-cell-requires-5
-cell-requires-5 c κs = (house-inside _ (c .before .before .before .before .before .before .pre .0), omega arith)
+cell-requires-5 c κs = search needs
 
 required-strength-requires : tie.Need-required-strength-requires
 required-strength-requires c κs = search needs
