@@ -5,7 +5,7 @@ use Prim.Native.Nat.{ℕ, _+_, _-_, _*_, _/_, _<_, _≤_}
 use native.Mathlib.Decide.{decLt}
 use native.Mathlib.Omega.{arith}
 use lib.ListN.{length}
-use Rattle.survey.specs.Table.{cell, storeys, endsRow, partsRow, rowsDue}
+use Rattle.survey.specs.Table.{cell, storeys, endsRow, partsRow}
 use Rattle.survey.specs.Judgement.{judging}
 use Rattle.survey.specs.Acceptance.{Accepted}
 use Rattle.survey.proofs.Acceptance.{accepted, accepted-zone}
@@ -21,17 +21,8 @@ module _ (table : List ℕ) (h : judging table .number ≡ 0) where
   pub storeys-few : (1 ≤ storeys table) × (storeys table ≤ 3)
   storeys-few = a .house-inside 1 (omega arith)
 
-  pub row-inside : (row : ℕ) → row < rowsDue table → 8 * row + 8 ≤ length table
-  row-inside row l = omega (arith, a .sizes)
-
   pub house-inside : 8 ≤ length table
   house-inside = omega (arith, a .sizes)
-
-  pub storey-inside : {storey : ℕ} → storey ≤ storeys table → 8 * storey + 8 ≤ length table
-  storey-inside l = row-inside _ (omega arith)
-
-  pub ends-inside : (storey direction : ℕ) → storey ≤ storeys table → 1 ≤ storey → direction ≤ 2 → 8 * endsRow table storey direction + 8 ≤ length table
-  ends-inside storey direction most some two = row-inside (endsRow table storey direction) (omega arith)
 
   -- The parts row is the last.
   pub parts-last : length table / 8 - 1 ≡ partsRow table

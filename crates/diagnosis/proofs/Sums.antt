@@ -124,8 +124,8 @@ module _ (table : List ℕ) (h : judging table .number ≡ 0) (storey : ℕ) {wa
 
   -- What adding a wall asks for.
   pub wall-ready : (direction row : ℕ) {sums : Held} → row < length walls / 8 → sums ≡ heldBy table storey walls direction row
-      → ((8 * row + 8 ≤ length walls) × (cell walls row 5 ≤ 20000)) × ((sums .all ≤ mostHeld) × (sums .a ≤ mostHeld) × (sums .b ≤ mostHeld))
-  wall-ready direction row inside e = ((omega arith, walls-short row inside), sums-within direction row (omega arith) e)
+      → (cell walls row 5 ≤ 20000) × ((sums .all ≤ mostHeld) × (sums .a ≤ mostHeld) × (sums .b ≤ mostHeld))
+  wall-ready direction row inside e = (walls-short row inside, sums-within direction row (omega arith) e)
 
 module _ (table : List ℕ) (h : judging table .number ≡ 0) (storey direction : ℕ) where
   pub storey-held-most : held table storey direction ≤ mostHeld

@@ -43,8 +43,8 @@ pub struct Directions {
 
 // What is required of a storey.
 fn storey_required(table: &[u32], storey: usize) -> u64
-    requires { ⌜ judging (now table) .number ≡ 0 ⌝ }
-    requires { ⌜ (1 ≤ storey) × (storey ≤ storeys (now table)) ⌝ }
+    requires accepted { ⌜ judging (now table) .number ≡ 0 ⌝ }
+    requires storey { ⌜ (1 ≤ storey) × (storey ≤ storeys (now table)) ⌝ }
     ensures { λ r. ⌜ r ≡ required (now (table .entry)) storey ⌝ }
 {
     required_of(
@@ -57,10 +57,10 @@ fn storey_required(table: &[u32], storey: usize) -> u64
 
 // The band of an end, 0 for end a and 1 for end b, whose solid walls hold so much.
 fn end_band(table: &[u32], storey: usize, direction: usize, end: usize, holds: u64) -> u32
-    requires { ⌜ judging (now table) .number ≡ 0 ⌝ }
-    requires { ⌜ (1 ≤ storey) × (storey ≤ storeys (now table)) ⌝ }
-    requires { ⌜ (1 ≤ direction) × (direction ≤ 2) × (end ≤ 1) ⌝ }
-    requires { ⌜ holds ≡ endHeld (now table) storey direction end ⌝ }
+    requires accepted { ⌜ judging (now table) .number ≡ 0 ⌝ }
+    requires storey { ⌜ (1 ≤ storey) × (storey ≤ storeys (now table)) ⌝ }
+    requires direction { ⌜ (1 ≤ direction) × (direction ≤ 2) × (end ≤ 1) ⌝ }
+    requires holds { ⌜ holds ≡ endHeld (now table) storey direction end ⌝ }
     ensures { λ r. ⌜ r ≡ endBand (now (table .entry)) storey direction end ⌝ }
 {
     let storeys = cell(table, 0, STOREYS) as usize;
@@ -72,8 +72,8 @@ fn end_band(table: &[u32], storey: usize, direction: usize, end: usize, holds: u
 
 // A storey's floor type, a void taken into account.
 fn storey_floor_type(table: &[u32], storey: usize) -> u32
-    requires { ⌜ judging (now table) .number ≡ 0 ⌝ }
-    requires { ⌜ (1 ≤ storey) × (storey ≤ storeys (now table)) ⌝ }
+    requires accepted { ⌜ judging (now table) .number ≡ 0 ⌝ }
+    requires storey { ⌜ (1 ≤ storey) × (storey ≤ storeys (now table)) ⌝ }
     ensures { λ r. ⌜ r ≡ storeyFloorType (now (table .entry)) storey ⌝ }
 {
     floor_type(cell(table, storey, FLOOR_TYPE), cell(table, storey, VOID))
@@ -100,11 +100,11 @@ fn assess(
     storey: usize,
     direction: usize,
 ) -> Assessment
-    requires { ⌜ judging (now table) .number ≡ 0 ⌝ }
-    requires { ⌜ sums ≡ storeyHeld (now table) storey direction ⌝ }
-    requires { ⌜ factor ≡ deterioration (now table) ⌝ }
-    requires { ⌜ (1 ≤ storey) × (storey ≤ storeys (now table)) ⌝ }
-    requires { ⌜ (1 ≤ direction) × (direction ≤ 2) ⌝ }
+    requires accepted { ⌜ judging (now table) .number ≡ 0 ⌝ }
+    requires sums { ⌜ sums ≡ storeyHeld (now table) storey direction ⌝ }
+    requires factor { ⌜ factor ≡ deterioration (now table) ⌝ }
+    requires storey { ⌜ (1 ≤ storey) × (storey ≤ storeys (now table)) ⌝ }
+    requires direction { ⌜ (1 ≤ direction) × (direction ≤ 2) ⌝ }
     ensures { λ r. ⌜ r ≡ assessment (now (table .entry)) storey direction ⌝ }
 {
     let held = sums.all;
@@ -123,11 +123,11 @@ fn assess(
 
 // Both directions of a storey, from that storey's part of the table.
 pub(crate) fn assess_storey(table: &[u32], factor: Fraction, storey: usize) -> Directions
-    requires { ⌜ judging (now table) .number ≡ 0 ⌝ }
-    requires { ⌜ factor ≡ deterioration (now table) ⌝ }
-    requires { ⌜ (1 ≤ storey) × (storey ≤ storeys (now table)) ⌝ }
-    ensures { λ r. ⌜ r .x ≡ assessment (now (table .entry)) storey 1 ⌝ }
-    ensures { λ r. ⌜ r .y ≡ assessment (now (table .entry)) storey 2 ⌝ }
+    requires accepted { ⌜ judging (now table) .number ≡ 0 ⌝ }
+    requires factor { ⌜ factor ≡ deterioration (now table) ⌝ }
+    requires storey { ⌜ (1 ≤ storey) × (storey ≤ storeys (now table)) ⌝ }
+    ensures x { λ r. ⌜ r .x ≡ assessment (now (table .entry)) storey 1 ⌝ }
+    ensures y { λ r. ⌜ r .y ≡ assessment (now (table .entry)) storey 2 ⌝ }
 {
     let walls = storey_run(table, storey as u32);
     let sums = held_by(table, storey as u32, walls);

@@ -26,8 +26,8 @@ pub struct Output {
 // Diagnoses a sheet by way of a table that has room for any.
 fn diagnose_by(sheet: &[u8], table: &mut [u32], report: &mut [u8]) -> Answer
     requires { ⌜ length (now table) ≡ mostNumbers ⌝ }
-    ensures { λ r. ⌜ told r ≡ diagnosing (now (sheet .entry)) (length (now (report .entry))) ⌝ }
-    ensures { λ _. ⌜ now (report .exit) ≡ afterDiagnosing (now (sheet .entry)) (now (report .entry)) ⌝ }
+    ensures answer { λ r. ⌜ told r ≡ diagnosing (now (sheet .entry)) (length (now (report .entry))) ⌝ }
+    ensures report { λ _. ⌜ now (report .exit) ≡ afterDiagnosing (now (sheet .entry)) (now (report .entry)) ⌝ }
 {
     let answer = read(sheet, table);
     match answer {
@@ -42,8 +42,8 @@ fn diagnose_by(sheet: &[u8], table: &mut [u32], report: &mut [u8]) -> Answer
 // Diagnoses any sheet, and writes its report into lent bytes: the count of bytes written, or the
 // refusal of reading or judging, or 9. Bytes after them stay, and a refusal changes none.
 pub fn diagnose(sheet: &[u8], report: &mut [u8]) -> Answer
-    ensures { λ r. ⌜ told r ≡ diagnosing (now (sheet .entry)) (length (now (report .entry))) ⌝ }
-    ensures { λ _. ⌜ now (report .exit) ≡ afterDiagnosing (now (sheet .entry)) (now (report .entry)) ⌝ }
+    ensures answer { λ r. ⌜ told r ≡ diagnosing (now (sheet .entry)) (length (now (report .entry))) ⌝ }
+    ensures report { λ _. ⌜ now (report .exit) ≡ afterDiagnosing (now (sheet .entry)) (now (report .entry)) ⌝ }
 {
     let mut table = [0u32; MOST_NUMBERS];
     diagnose_by(sheet, &mut table, report)

@@ -78,9 +78,9 @@ fn put_row(row: [u32; 8], to: &mut [u32])
 
 // Writes a storey's two rows.
 fn fill_storey(storey: u32, found: Directions, factor: Fraction, rows: &mut [u32])
-    requires { ⌜ (found .x .held ≤ mostHeld) × (found .x .required ≤ mostRequired) × (0 < factor .lower) ⌝ }
-    requires { ⌜ (found .y .held ≤ mostHeld) × (found .y .required ≤ mostRequired) × (0 < factor .lower) ⌝ }
-    requires { ⌜ length (now rows) ≡ 16 ⌝ }
+    requires x { ⌜ (found .x .held ≤ mostHeld) × (found .x .required ≤ mostRequired) × (0 < factor .lower) ⌝ }
+    requires y { ⌜ (found .y .held ≤ mostHeld) × (found .y .required ≤ mostRequired) × (0 < factor .lower) ⌝ }
+    requires rows { ⌜ length (now rows) ≡ 16 ⌝ }
     ensures { λ _. ⌜ now (rows .exit) ≡ resultRow storey 1 (found .x) factor ++ resultRow storey 2 (found .y) factor ⌝ }
 {
     let x = found.x;
@@ -91,10 +91,10 @@ fn fill_storey(storey: u32, found: Directions, factor: Fraction, rows: &mut [u32
 
 // Writes the rows of every storey and direction, and answers the least score.
 fn fill_results(table: &[u32], rows: &mut [u32]) -> u32
-    requires { ⌜ judging (now table) .number ≡ 0 ⌝ }
-    requires { ⌜ 16 * storeys (now table) ≤ length (now rows) ⌝ }
-    ensures { λ r. ⌜ r ≡ leastScore (now (table .entry)) ⌝ }
-    ensures { λ _. ⌜ now (rows .exit) ≡ over (now (rows .entry)) (resultRows (now (table .entry))) ⌝ }
+    requires accepted { ⌜ judging (now table) .number ≡ 0 ⌝ }
+    requires rows { ⌜ 16 * storeys (now table) ≤ length (now rows) ⌝ }
+    ensures least { λ r. ⌜ r ≡ leastScore (now (table .entry)) ⌝ }
+    ensures rows { λ _. ⌜ now (rows .exit) ≡ over (now (rows .entry)) (resultRows (now (table .entry))) ⌝ }
 {
     let factor = deterioration(table);
     let storeys = cell(table, 0, STOREYS) as usize;
@@ -117,9 +117,9 @@ fn fill_results(table: &[u32], rows: &mut [u32]) -> u32
 
 // Prints an accepted table's report where there is room for it, by way of its rows.
 fn print_report(table: &[u32], rows: &mut [u32], report: &mut [u8])
-    requires { ⌜ judging (now table) .number ≡ 0 ⌝ }
-    requires { ⌜ length (now rows) ≡ 56 ⌝ }
-    requires { ⌜ 65 * reportLines (now table) ≤ length (now report) ⌝ }
+    requires accepted { ⌜ judging (now table) .number ≡ 0 ⌝ }
+    requires rows { ⌜ length (now rows) ≡ 56 ⌝ }
+    requires report { ⌜ 65 * reportLines (now table) ≤ length (now report) ⌝ }
     ensures { λ _. ⌜ now (report .exit) ≡ over (now (report .entry)) (reportBytes (now (table .entry))) ⌝ }
 {
     let least = fill_results(table, rows);
@@ -132,8 +132,8 @@ fn print_report(table: &[u32], rows: &mut [u32], report: &mut [u8])
 // Writes an accepted table's report into lent bytes, where they have room for it.
 fn report_accepted(table: &[u32], report: &mut [u8]) -> Answer
     requires { ⌜ judging (now table) .number ≡ 0 ⌝ }
-    ensures { λ r. ⌜ told r ≡ reporting (now (table .entry)) (length (now (report .entry))) ⌝ }
-    ensures { λ _. ⌜ now (report .exit) ≡ afterReporting (now (table .entry)) (now (report .entry)) ⌝ }
+    ensures answer { λ r. ⌜ told r ≡ reporting (now (table .entry)) (length (now (report .entry))) ⌝ }
+    ensures report { λ _. ⌜ now (report .exit) ≡ afterReporting (now (table .entry)) (now (report .entry)) ⌝ }
 {
     let lines = 2 * cell(table, 0, STOREYS) as usize + 1;
     let length = LINE * lines;
@@ -152,8 +152,8 @@ fn report_accepted(table: &[u32], report: &mut [u8]) -> Answer
 // Writes any table's report into lent bytes: the count of bytes written, or the refusal. Bytes after
 // them stay, and a refusal changes none.
 pub fn report(table: &[u32], report: &mut [u8]) -> Answer
-    ensures { λ r. ⌜ told r ≡ reporting (now (table .entry)) (length (now (report .entry))) ⌝ }
-    ensures { λ _. ⌜ now (report .exit) ≡ afterReporting (now (table .entry)) (now (report .entry)) ⌝ }
+    ensures answer { λ r. ⌜ told r ≡ reporting (now (table .entry)) (length (now (report .entry))) ⌝ }
+    ensures report { λ _. ⌜ now (report .exit) ≡ afterReporting (now (table .entry)) (now (report .entry)) ⌝ }
 {
     let judged = judge(table);
     match judged {

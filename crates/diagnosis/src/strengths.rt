@@ -18,8 +18,7 @@ use survey::columns::WEIGHT;
 use survey::columns::ZONE;
 ghost use mathlib.Core.Path.{_≡_};
 ghost use mathlib.Core.Bool.{cond};
-ghost use Prim.Native.Nat.{_≤_, _+_, _*_, _/_};
-ghost use lib.ListN.{length};
+ghost use Prim.Native.Nat.{_≤_, _+_};
 ghost use Rattle.method.specs.Held.{mostHeld};
 ghost use Rattle.survey.specs.Table.{cell, storeys};
 ghost use Rattle.survey.specs.Judgement.{judging};
@@ -45,8 +44,6 @@ pub struct StoreyHeld {
 
 // What a wall counts, by its row among its storey's walls.
 fn share(table: &[u32], storey: u32, walls: &[u32], row: usize) -> u64
-    requires { ⌜ 8 ≤ length (now table) ⌝ }
-    requires { ⌜ 8 * row + 8 ≤ length (now walls) ⌝ }
     ensures { λ r. ⌜ r ≡ share (now (table .entry)) storey (now (walls .entry)) row ⌝ }
 {
     wall_share(
@@ -62,7 +59,6 @@ fn share(table: &[u32], storey: u32, walls: &[u32], row: usize) -> u64
 
 // Whether a wall stands in a direction.
 fn in_direction(walls: &[u32], direction: u32, row: usize) -> bool
-    requires { ⌜ 8 * row + 8 ≤ length (now walls) ⌝ }
     ensures { λ r. ⌜ r ≡ inDirection (now (walls .entry)) direction row ⌝ }
 {
     cell(walls, row, DIRECTION) == direction
@@ -72,7 +68,6 @@ fn in_direction(walls: &[u32], direction: u32, row: usize) -> bool
 // are read before they are tested, so that the tests need no jumps: walls come in no order, and a jump
 // would often be guessed wrong.
 fn solid_at_end(walls: &[u32], direction: u32, end: u32, row: usize) -> bool
-    requires { ⌜ 8 * row + 8 ≤ length (now walls) ⌝ }
     requires { ⌜ end ≤ 1 ⌝ }
     ensures { λ r. ⌜ r ≡ solidAtEnd (now (walls .entry)) direction end row ⌝ }
 {
@@ -108,10 +103,10 @@ fn with_wall(
     counted: u64,
     sums: Held,
 ) -> Held
-    requires { ⌜ (8 * row + 8 ≤ length (now walls)) × (cell (now walls) row 5 ≤ 20000) ⌝ }
-    requires { ⌜ counted ≡ share (now table) storey (now walls) row ⌝ }
-    requires { ⌜ (sums .all ≤ mostHeld) × (sums .a ≤ mostHeld) × (sums .b ≤ mostHeld) ⌝ }
-    requires { ⌜ sums ≡ heldBy (now table) storey (now walls) direction row ⌝ }
+    requires length { ⌜ cell (now walls) row 5 ≤ 20000 ⌝ }
+    requires counted { ⌜ counted ≡ share (now table) storey (now walls) row ⌝ }
+    requires most { ⌜ (sums .all ≤ mostHeld) × (sums .a ≤ mostHeld) × (sums .b ≤ mostHeld) ⌝ }
+    requires sums { ⌜ sums ≡ heldBy (now table) storey (now walls) direction row ⌝ }
     ensures { λ r. ⌜ r ≡ heldBy (now (table .entry)) storey (now (walls .entry)) direction (row + 1) ⌝ }
 {
     Held {
@@ -123,10 +118,10 @@ fn with_wall(
 
 // What the walls of a storey hold.
 pub(crate) fn held_by(table: &[u32], storey: u32, walls: &[u32]) -> StoreyHeld
-    requires { ⌜ judging (now table) .number ≡ 0 ⌝ }
-    requires { ⌜ now walls ≡ storeyWalls (now table) storey ⌝ }
-    ensures { λ r. ⌜ r .x ≡ storeyHeld (now (table .entry)) storey 1 ⌝ }
-    ensures { λ r. ⌜ r .y ≡ storeyHeld (now (table .entry)) storey 2 ⌝ }
+    requires accepted { ⌜ judging (now table) .number ≡ 0 ⌝ }
+    requires walls { ⌜ now walls ≡ storeyWalls (now table) storey ⌝ }
+    ensures x { λ r. ⌜ r .x ≡ storeyHeld (now (table .entry)) storey 1 ⌝ }
+    ensures y { λ r. ⌜ r .y ≡ storeyHeld (now (table .entry)) storey 2 ⌝ }
 {
     let rows = walls.len() / ROW;
     let mut x = Held { all: 0, a: 0, b: 0 };
@@ -143,8 +138,8 @@ pub(crate) fn held_by(table: &[u32], storey: u32, walls: &[u32]) -> StoreyHeld
 
 // What is required of a storey or of an end of it, by the storeys of its part of the house and its area.
 pub(crate) fn required_of(table: &[u32], storey: usize, part: u32, area: u32) -> u64
-    requires { ⌜ judging (now table) .number ≡ 0 ⌝ }
-    requires { ⌜ (1 ≤ storey) × (storey ≤ storeys (now table)) ⌝ }
+    requires accepted { ⌜ judging (now table) .number ≡ 0 ⌝ }
+    requires storey { ⌜ (1 ≤ storey) × (storey ≤ storeys (now table)) ⌝ }
     ensures { λ r. ⌜ r ≡ requiredOf (now (table .entry)) storey part area ⌝ }
 {
     let number = storey as u32;

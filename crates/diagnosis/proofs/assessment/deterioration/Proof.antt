@@ -2,7 +2,7 @@
 use native.Mathlib.Omega.{arith}
 use borrow.Author.Needs.{needs}
 use Rattle.diagnosis.specs.House.{deterioration}
-use Rattle.diagnosis.proofs.AcceptedTables.{house-inside, row-inside, parts-last}
+use Rattle.diagnosis.proofs.AcceptedTables.{house-inside, parts-last}
 use Rattle.diagnosis.proofs.assessment.deterioration.Statement.{statement}
 use Rattle.diagnosis.proofs.assessment.deterioration.Tie as tie
 

@@ -7,7 +7,6 @@ use lib.ListN.{length}
 use borrow.Author.Needs.{needs}
 use Rattle.diagnosis.specs.House.{endRequired}
 use Rattle.diagnosis.proofs.Assessments.{band-is}
-use Rattle.diagnosis.proofs.AcceptedTables.{house-inside, ends-inside}
 use Rattle.diagnosis.proofs.assessment.end_band.Statement.{statement}
 use Rattle.diagnosis.proofs.assessment.end_band.Tie as tie
 
@@ -37,12 +36,6 @@ add-row-3 c = search needs
 
 add-cell : tie.Need-add-cell
 add-cell c = search needs
-
-ends-row-inside : (c : tie.After-cell) → 8 * (c .cell .result + 1 + 2 * (c .before .before .args .storey - 1) + (c .before .before .args .direction - 1)) + 8 ≤ length (now (c .before .before .args .table))
-ends-row-inside c =
-    let start = c .before .before in
-    rw (c .cell .ensures)
-    (ends-inside _ (start .pre .0) (start .args .storey) (start .args .direction) (start .pre .1 .0 .1) (start .pre .1 .0 .0) (start .pre .1 .1 .0 .1))
 
 cell-requires-2 : tie.Need-cell-requires-2
 cell-requires-2 c κs = search needs

@@ -2,7 +2,6 @@
 use native.Mathlib.Omega.{arith}
 use borrow.Author.Needs.{needs}
 use Rattle.diagnosis.specs.House.{storeyFloorType}
-use Rattle.diagnosis.proofs.AcceptedTables.{storey-inside}
 use Rattle.diagnosis.proofs.assessment.storey_floor_type.Statement.{statement}
 use Rattle.diagnosis.proofs.assessment.storey_floor_type.Tie as tie
 

@@ -2,7 +2,6 @@
 use native.Mathlib.Omega.{arith}
 use borrow.Author.Needs.{needs}
 use Rattle.diagnosis.specs.House.{required}
-use Rattle.diagnosis.proofs.AcceptedTables.{house-inside, storey-inside}
 use Rattle.diagnosis.proofs.assessment.storey_required.Statement.{statement}
 use Rattle.diagnosis.proofs.assessment.storey_required.Tie as tie
 

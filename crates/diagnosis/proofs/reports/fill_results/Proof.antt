@@ -17,7 +17,7 @@ use Rattle.diagnosis.specs.House.{scores, leastOf, leastScore}
 use Rattle.diagnosis.proofs.Rows.{rowsOf, rows-of-length, storey-more}
 use Rattle.diagnosis.proofs.Assessments.{row-fits}
 use Rattle.diagnosis.proofs.ScoreLists.{scoresOf, least-score-more}
-use Rattle.diagnosis.proofs.AcceptedTables.{storeys-few, house-inside}
+use Rattle.diagnosis.proofs.AcceptedTables.{storeys-few}
 use Rattle.diagnosis.proofs.reports.fill_results.Statement.{statement}
 use Rattle.diagnosis.proofs.reports.fill_results.Tie as tie
 

@@ -10,7 +10,7 @@ use Rattle.sheet.specs.Sheet.{afterPrinting}
 use Rattle.sheet.proofs.Lists.{over-length}
 use Rattle.diagnosis.specs.Report.{verdictRow}
 use Rattle.diagnosis.proofs.Rows.{results-length, rows-taken, report-printed}
-use Rattle.diagnosis.proofs.AcceptedTables.{storeys-few, house-inside}
+use Rattle.diagnosis.proofs.AcceptedTables.{storeys-few}
 use Rattle.diagnosis.proofs.reports.print_report.Statement.{statement}
 use Rattle.diagnosis.proofs.reports.print_report.Tie as tie
 

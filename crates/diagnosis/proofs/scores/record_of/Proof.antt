@@ -10,7 +10,7 @@ use Rattle.diagnosis.specs.declared.assessment.Assessment.{Assessment}
 use Rattle.diagnosis.specs.Answers.{noScores, recordOf}
 use Rattle.diagnosis.specs.House.{scores, leastOf, leastScore, houseVerdict}
 use Rattle.diagnosis.proofs.ScoreLists.{scoresOf, scores-more, least-score-more}
-use Rattle.diagnosis.proofs.AcceptedTables.{storeys-few, house-inside}
+use Rattle.diagnosis.proofs.AcceptedTables.{storeys-few}
 use Rattle.diagnosis.proofs.scores.record_of.Statement.{statement}
 use Rattle.diagnosis.proofs.scores.record_of.Tie as tie
 

@@ -7,7 +7,6 @@ use lib.ListN.{length}
 use borrow.Author.Needs.{needs}
 use Rattle.diagnosis.specs.Internal.{heldBy}
 use Rattle.diagnosis.proofs.Sums.{no-walls, wall-ready, sums-whole}
-use Rattle.diagnosis.proofs.AcceptedTables.{house-inside}
 use Rattle.diagnosis.proofs.strengths.held_by.Statement.{statement}
 use Rattle.diagnosis.proofs.strengths.held_by.Tie as tie
 
@@ -21,9 +20,7 @@ loop-holds : tie.Need-loop-holds Inv-loop μ-loop
 loop-holds c = (search needs, no-walls _ _ _ _, no-walls _ _ _ _)
 
 share-requires : tie.Need-share-requires Inv-loop μ-loop
-share-requires c κs =
-    let start = c .before .before .before .before in
-    (house-inside _ (start .pre .0), omega arith)
+share-requires c κs = search needs
 
 with-wall-requires : tie.Need-with-wall-requires Inv-loop μ-loop
 with-wall-requires c κs =

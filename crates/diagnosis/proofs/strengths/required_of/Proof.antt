@@ -2,7 +2,7 @@
 use native.Mathlib.Omega.{arith}
 use borrow.Author.Needs.{needs}
 use Rattle.diagnosis.specs.House.{requiredOf}
-use Rattle.diagnosis.proofs.AcceptedTables.{storeys-few, house-inside, storey-inside, zone-most}
+use Rattle.diagnosis.proofs.AcceptedTables.{storeys-few, zone-most}
 use Rattle.diagnosis.proofs.strengths.required_of.Statement.{statement}
 use Rattle.diagnosis.proofs.strengths.required_of.Tie as tie
 

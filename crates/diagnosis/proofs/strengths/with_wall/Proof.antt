@@ -25,7 +25,7 @@ added-requires c κs = search needs
 add-t10 : tie.Need-add-t10
 add-t10 c =
     let start = c .before .before .before .before .before in
-    let small : start .args .counted ≤ mostShare = rw (start .pre .1 .0) (share-at-most _ _ _ _ (start .pre .0 .1)) in
+    let small : start .args .counted ≤ mostShare = rw (start .pre .1 .0) (share-at-most _ _ _ _ (start .pre .0)) in
     room (c .before .before .in-direction .result) (start .pre .1 .1 .0 .0) small (c .before .added .ensures)
 
 solid-at-end-requires : tie.Need-solid-at-end-requires
@@ -37,7 +37,7 @@ added-requires-2 c κs = search needs
 add-t13 : tie.Need-add-t13
 add-t13 c =
     let start = c .before .before .before .before .before .before .before .before in
-    let small : start .args .counted ≤ mostShare = rw (start .pre .1 .0) (share-at-most _ _ _ _ (start .pre .0 .1)) in
+    let small : start .args .counted ≤ mostShare = rw (start .pre .1 .0) (share-at-most _ _ _ _ (start .pre .0)) in
     room (c .before .before .solid-at-end .result) (start .pre .1 .1 .0 .1) small (c .before .added2 .ensures)
 
 solid-at-end-requires-2 : tie.Need-solid-at-end-requires-2
@@ -49,7 +49,7 @@ added-requires-3 c κs = search needs
 add-t16 : tie.Need-add-t16
 add-t16 c =
     let start = c .before .before .before .before .before .before .before .before .before .before .before in
-    let small : start .args .counted ≤ mostShare = rw (start .pre .1 .0) (share-at-most _ _ _ _ (start .pre .0 .1)) in
+    let small : start .args .counted ≤ mostShare = rw (start .pre .1 .0) (share-at-most _ _ _ _ (start .pre .0)) in
     room (c .before .before .solid-at-end2 .result) (start .pre .1 .1 .0 .2) small (c .before .added3 .ensures)
 
 returns : tie.Need-returns
