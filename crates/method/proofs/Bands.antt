@@ -1,23 +1,40 @@
--- Bands and the layout factor: a band never rises as more is required, and with the higher band kept the factor never rises as bands fall.
--- Assumes nothing.
-use mathlib.Core.Path.{_≡_, refl, sym}
-use mathlib.Core.Bool.{Bool, true, not, _&&_, _||_}
+-- Bands and the layout factor: the test by which a band is computed; a band never rises as more is required, and with the higher band kept
+-- the factor never rises as bands fall. Assumes nothing.
+use mathlib.Core.Path.{_≡_, refl, sym, ap, _∙_}
+use mathlib.Core.Bool.{Bool, true, false, not, _&&_, _||_}
 use mathlib.Core.List.{[]}
-use Prim.Native.Nat.{ℕ, _+_, _-_, _*_, _≤_, zero-le, max}
-use native.Mathlib.Nat.{mul-le-mul-left, le-refl, le-trans, add-le-add, min-le-right}
+use Prim.Native.Nat.{ℕ, _+_, _-_, _*_, _/_, _%_, _≤_, zero-le, max}
+use native.Mathlib.Nat.{mul-add, mul-left-comm, mul-le-mul-left, le-refl, le-trans, add-le-add, min-le-right}
 use native.Mathlib.Omega.{arith}
 use lib.ListN.{length, getD, List·getD-eq-default}
 use lib.Dec.{eqb, leb, lit≤}
-use borrow.Author.Tests.{leb-true, le-leb, eqb-true, eq-eqb}
+use borrow.Author.Tests.{leb-true, leb-false, le-leb, lt-leb, eqb-true, eq-eqb}
 use Rattle.method.specs.Printed.{nth}
 use Rattle.method.specs.LayoutFactor.{reached, band, floorType, layoutFactors, layoutFactor}
 use Rattle.method.proofs.Tables.{nth-is, nth-none, implied, every, getD-every, nth-every, small, short, everyBelow, at-every}
 use Rattle.method.proofs.Branches.{cond-most, cond-least}
 
+-- The function's test, which has no product beyond 64 bits, is the definition's: limit × required / 100,000, rounded up, is at most what is
+-- held just where limit × required is at most 100,000 × held.
+pub reached-test : (held required limit : ℕ)
+    → leb (limit * (required / 100_000) + (limit * (required % 100_000) + 99_999) / 100_000) held ≡ leb (limit * required) (100_000 * held)
+reached-test held required limit =
+    go (leb (limit * (required / 100_000) + (limit * (required % 100_000) + 99_999) / 100_000) held) refl
+  where
+    apart : limit * required ≡ 100_000 * (limit * (required / 100_000)) + limit * (required % 100_000)
+    apart =
+        let sum : required ≡ 100_000 * (required / 100_000) + required % 100_000 = omega arith in
+        ap (λ (n : ℕ). limit * n) sum ∙ rw (mul-add limit _ _, mul-left-comm limit 100_000 _)
+
+    go : (t : Bool) → leb (limit * (required / 100_000) + (limit * (required % 100_000) + 99_999) / 100_000) held ≡ t
+        → t ≡ leb (limit * required) (100_000 * held)
+    go true e = sym (le-leb (limit * required) (100_000 * held) (omega (arith, apart, leb-true _ held e)))
+    go false e = sym (lt-leb (limit * required) (100_000 * held) (omega (arith, apart, leb-false _ held e)))
+
 -- A limit is reached or not.
 pub reached-most : (held required limit : ℕ) → reached held required limit ≤ 1
 unfolding reached
-reached-most held required limit = cond-most (leb (limit * required) (100000 * held)) (λ e. lit≤ tt) (λ e. lit≤ tt)
+reached-most held required limit = cond-most (leb (limit * required) (100_000 * held)) (λ e. lit≤ tt) (λ e. lit≤ tt)
 
 -- A sufficiency that falls reaches no more limits.
 module _ {weaker held required more : ℕ} (less : weaker ≤ held) (grows : required ≤ more) where
@@ -25,8 +42,8 @@ module _ {weaker held required more : ℕ} (less : weaker ≤ held) (grows : req
   unfolding reached
   reached-falls limit =
       let needs : limit * required ≤ limit * more = mul-le-mul-left limit grows in
-      cond-most (leb (limit * more) (100000 * weaker))
-      (λ e. rw (le-leb (limit * required) (100000 * held) (omega (arith, leb-true (limit * more) (100000 * weaker) e))) (le-refl 1)) (λ e. zero-le)
+      cond-most (leb (limit * more) (100_000 * weaker))
+      (λ e. rw (le-leb (limit * required) (100_000 * held) (omega (arith, leb-true (limit * more) (100_000 * weaker) e))) (le-refl 1)) (λ e. zero-le)
 
   pub band-falls : band weaker more ≤ band held required
   unfolding band

@@ -2,14 +2,16 @@
 -- Assumes nothing.
 use mathlib.Core.Path.{_≡_}
 use mathlib.Core.Bool.{false}
-use Prim.Native.Nat.{ℕ, _*_, _/_, _<_, _≤_, max}
+use Prim.Native.Nat.{ℕ, _*_, _/_, _<_, _≤_, min, max}
 use native.Mathlib.Nat.{le-refl, le-trans, le-of-eq, mul-le-mul, mul-le-mul-left, mul-le-mul-right, mul-pos, mul-assoc, mul-comm, mul-left-comm, le-of-mul-le-mul-right, le-div-iff-mul-le, div-mul-le-self, le-min, min-le-left, min-le-right, lt-of-lt-of-le}
 use native.Mathlib.Omega.{arith}
 use lib.Dec.{leb, lit≤}
 use borrow.Author.Tests.{leb-false, lt-leb}
 use Rattle.method.specs.declared.deterioration.Fraction.{Fraction}
+use Rattle.method.specs.Held.{mostHeld}
+use Rattle.method.specs.Required.{mostRequired}
 use Rattle.method.specs.LayoutFactor.{band, layoutFactor}
-use Rattle.method.specs.Score.{score, scoreBeforeLayout, verdict}
+use Rattle.method.specs.Score.{score, scoreBeforeLayout, cappedScore, verdict}
 use Rattle.method.proofs.Branches.{cond-most, cond-least}
 use Rattle.method.proofs.Bands.{band-falls, band-most, layout-falls}
 use Rattle.method.proofs.Fractions.{_at-most_}
@@ -65,6 +67,15 @@ full-score-falls held one other {oneRequired = oneRequired} {otherRequired = oth
 pub score-most : (held required layout : ℕ) (f : Fraction) → score held required layout f ≤ 999
 unfolding score
 score-most held required layout f = min-le-right (1000 * held * layout * f .upper / (required * f .lower)) 999
+
+-- Of strengths up to 60,000 kN the score that the function answers is the score.
+pub capped-score : {held required : ℕ} (layout : ℕ) (f : Fraction) → held ≤ mostHeld → required ≤ mostRequired
+    → cappedScore held required layout f ≡ score held required layout f
+unfolding cappedScore
+capped-score {held} {required} layout f holds needs =
+    let held-all : min held mostHeld ≡ held = omega arith in
+    let needed-all : min required mostRequired ≡ required = omega arith in
+    rw (held-all, needed-all)
 
 -- The verdict's number is 1 to 4, and never falls when the least score falls.
 pub verdict-least : (least : ℕ) → 1 ≤ verdict least
