@@ -11,10 +11,10 @@ use Rattle.method.specs.declared.deterioration.Fraction.{Fraction}
 use Rattle.method.specs.Held.{mostHeld}
 use Rattle.method.specs.Required.{mostRequired}
 use Rattle.method.specs.LayoutFactor.{band, layoutFactor}
+use Rattle.method.specs.Deterioration.{_at-most_}
 use Rattle.method.specs.Score.{score, scoreBeforeLayout, cappedScore, verdict}
 use Rattle.method.proofs.Branches.{cond-most, cond-least}
 use Rattle.method.proofs.Bands.{band-falls, band-most, layout-falls}
-use Rattle.method.proofs.Fractions.{_at-most_}
 
 -- One quotient is at most another, both rounded down, where it is so with both sides multiplied out.
 pub quotient-le : (a c : ℕ) {b d : ℕ} → 0 < b → 0 < d → a * d ≤ c * b → a / b ≤ c / d

@@ -4,7 +4,7 @@ use mathlib.Core.List.{List, [], _∷_}
 use Prim.Native.Nat.{ℕ}
 use Rattle.method.specs.Printed.{nth}
 use Rattle.method.specs.Held.{position, foundationUsed, sharedRow, entry, interpolated, rowFactor, jointFactor, solidShare, openingShare, wallShare}
-use Rattle.method.specs.LayoutFactor.{reached, band, layoutFactor}
+use Rattle.method.specs.LayoutFactor.{reached, band, layoutFactor, byFloorType}
 use Rattle.method.specs.Deterioration.{points, countedMarks, factorOf, deteriorationFactor}
 use Rattle.method.specs.Score.{verdict}
 
@@ -73,20 +73,16 @@ pub worked-out : worked ≡ expected
 unfolding position foundationUsed sharedRow entry interpolated rowFactor jointFactor solidShare openingShare wallShare nth reached band points countedMarks factorOf deteriorationFactor verdict
 worked-out = refl
 
--- The factors of a pair of bands, A as 0 to E as 4, for floor types 1, 2 and 3.
-abbrev factors : ℕ → ℕ → List ℕ
-factors one other = layoutFactor one other 1 ∷ layoutFactor one other 2 ∷ layoutFactor one other 3 ∷ []
-
--- Document 01's own table, by lower and higher band, is the one that 000 prints.
+-- Document 01's own table, by lower and higher band, A as 0 to E as 4, is the one that 000 prints.
 pub document-table :
-    (factors 0 0 ∷ factors 1 1 ∷ factors 1 2 ∷ factors 2 2 ∷ factors 2 3 ∷ factors 2 4  -- AA, BB, BC, CC, CD, CE
-    ∷ factors 0 1  -- AB
-    ∷ factors 0 2  -- AC
-    ∷ factors 0 3  -- AD
-    ∷ factors 0 4  -- AE
-    ∷ factors 1 3  -- BD
-    ∷ factors 1 4  -- BE
-    ∷ factors 3 3 ∷ factors 3 4 ∷ factors 4 4  -- DD, DE, EE
+    (byFloorType 0 0 ∷ byFloorType 1 1 ∷ byFloorType 1 2 ∷ byFloorType 2 2 ∷ byFloorType 2 3 ∷ byFloorType 2 4  -- AA, BB, BC, CC, CD, CE
+    ∷ byFloorType 0 1  -- AB
+    ∷ byFloorType 0 2  -- AC
+    ∷ byFloorType 0 3  -- AD
+    ∷ byFloorType 0 4  -- AE
+    ∷ byFloorType 1 3  -- BD
+    ∷ byFloorType 1 4  -- BE
+    ∷ byFloorType 3 3 ∷ byFloorType 3 4 ∷ byFloorType 4 4  -- DD, DE, EE
     ∷ [])
     ≡ ((100 ∷ 90 ∷ 80 ∷ []) ∷ (100 ∷ 90 ∷ 80 ∷ []) ∷ (100 ∷ 90 ∷ 80 ∷ []) ∷ (100 ∷ 90 ∷ 80 ∷ []) ∷ (100 ∷ 90 ∷ 80 ∷ []) ∷ (100 ∷ 90 ∷ 80 ∷ [])
     ∷ (70 ∷ 65 ∷ 60 ∷ [])

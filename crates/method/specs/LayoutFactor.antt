@@ -33,3 +33,7 @@ layoutFactors =
 -- The layout factor for the bands of both ends and a floor type; 0 where there is no such band or floor type.
 unfoldable pub layoutFactor : ℕ → ℕ → ℕ → ℕ
 layoutFactor one other floor = nth (getD (getD layoutFactors one []) other []) floor 0
+
+-- The factors of a pair of bands "by floor type 1/2/3", an entry of document 01's own table.
+abbrev pub byFloorType : ℕ → ℕ → List ℕ
+byFloorType one other = layoutFactor one other 1 ∷ layoutFactor one other 2 ∷ layoutFactor one other 3 ∷ []
