@@ -6,6 +6,7 @@ use mathlib.Core.List.{[]}
 use Prim.Native.Nat.{ℕ, _+_, _-_, _*_, _/_, _%_, _≤_, zero-le, max}
 use native.Mathlib.Nat.{mul-add, mul-left-comm, mul-le-mul-left, le-refl, le-trans, add-le-add, min-le-right}
 use native.Mathlib.Omega.{arith}
+use native.Mathlib.Decide.{decLe}
 use lib.ListN.{length, getD, List·getD-eq-default}
 use lib.Dec.{eqb, leb, lit≤}
 use borrow.Author.Tests.{leb-true, leb-false, le-leb, lt-leb, eqb-true, eq-eqb}
@@ -47,13 +48,13 @@ module _ {weaker held required more : ℕ} (less : weaker ≤ held) (grows : req
 
   pub band-falls : band weaker more ≤ band held required
   unfolding band
-  band-falls = add-le-add (add-le-add (add-le-add (reached-falls 33) (reached-falls 66)) (reached-falls 100)) (reached-falls 133)
+  band-falls = add-le-add (add-le-add (add-le-add (reached-falls _) (reached-falls _)) (reached-falls _)) (reached-falls _)
 
 pub band-most : (held required : ℕ) → band held required ≤ 4
 unfolding band
 band-most held required =
-    add-le-add (add-le-add (add-le-add (reached-most held required 33) (reached-most held required 66)) (reached-most held required 100))
-    (reached-most held required 133)
+    add-le-add (add-le-add (add-le-add (reached-most held required _) (reached-most held required _)) (reached-most held required _))
+    (reached-most held required _)
 
 -- A floor type stays 1 to 3.
 pub floor-least : {floor : ℕ} (void : ℕ) → 1 ≤ floor → 1 ≤ floorType floor void
@@ -108,17 +109,23 @@ all-falling :
 unfolding everyBelow falling layoutFactor nth
 all-falling = refl
 
--- With the higher band kept the layout factor never rises.
-pub layout-falls : {one other one' other' floor : ℕ} → one ≤ 4 → other ≤ 4 → floor ≤ 3
-    → one' ≤ one → other' ≤ other → max one' other' ≡ max one other → layoutFactor one' other' floor ≤ layoutFactor one other floor
+-- With the higher band kept the layout factor never rises. Where there is no such band or floor type it is 0.
+pub layout-falls : {one other one' other' : ℕ} (floor : ℕ) → one' ≤ one → other' ≤ other → max one' other' ≡ max one other
+    → layoutFactor one' other' floor ≤ layoutFactor one other floor
 unfolding falling
-layout-falls {one} {other} {one'} {other'} {floor} hone hother hfloor lower lower' kept =
-    leb-true (layoutFactor one' other' floor) (layoutFactor one other floor)
-    (implied (leb one' one && leb other' other && eqb (max one' other') (max one other))
-    (at-every 5 _
-    (at-every 5 _ (at-every 5 _ (at-every 5 _ (at-every 4 _ all-falling floor (omega arith)) one (omega arith)) other (omega arith)) one' (omega arith))
-    other' (omega arith))
-    (rw (le-leb one' one lower, le-leb other' other lower', eq-eqb (max one' other') (max one other) kept)))
+layout-falls {one} {other} {one'} {other'} floor lower lower' kept = go (decLe one' 4) (decLe other' 4) (decLe floor 3)
+  where
+    go : Dec (one' ≤ 4) → Dec (other' ≤ 4) → Dec (floor ≤ 3) → layoutFactor one' other' floor ≤ layoutFactor one other floor
+    go (no beyond) h k = rw (← layout-no-band one' other' floor (omega (arith, beyond))) zero-le
+    go (yes known) (no beyond) k = rw (← layout-no-other one' other' floor (omega (arith, beyond))) zero-le
+    go (yes known) (yes known') (no beyond) = rw (← layout-no-floor one' other' floor (λ some most. beyond most)) zero-le
+    go (yes known) (yes known') (yes few) =
+        leb-true (layoutFactor one' other' floor) (layoutFactor one other floor)
+        (implied (leb one' one && leb other' other && eqb (max one' other') (max one other))
+        (at-every 5 _
+        (at-every 5 _ (at-every 5 _ (at-every 5 _ (at-every 4 _ all-falling floor (omega arith)) one (omega arith)) other (omega arith)) one' (omega arith))
+        other' (omega arith))
+        (rw (le-leb one' one lower, le-leb other' other lower', eq-eqb (max one' other') (max one other) kept)))
 
 -- It does not matter which end is which.
 mirrored : ℕ → ℕ → ℕ → Bool
@@ -128,8 +135,15 @@ all-mirrored : everyBelow 4 (λ floor. everyBelow 5 (λ one. everyBelow 5 (λ ot
 unfolding everyBelow mirrored layoutFactor nth
 all-mirrored = refl
 
-pub layout-mirrored : {one other floor : ℕ} → one ≤ 4 → other ≤ 4 → floor ≤ 3 → layoutFactor one other floor ≡ layoutFactor other one floor
+pub layout-mirrored : (one other floor : ℕ) → layoutFactor one other floor ≡ layoutFactor other one floor
 unfolding mirrored
-layout-mirrored {one} {other} {floor} hone hother hfloor =
-    eqb-true (layoutFactor one other floor) (layoutFactor other one floor)
-    (at-every 5 _ (at-every 5 _ (at-every 4 _ all-mirrored floor (omega arith)) one (omega arith)) other (omega arith))
+layout-mirrored one other floor = go (decLe one 4) (decLe other 4) (decLe floor 3)
+  where
+    go : Dec (one ≤ 4) → Dec (other ≤ 4) → Dec (floor ≤ 3) → layoutFactor one other floor ≡ layoutFactor other one floor
+    go (no beyond) h k = sym (layout-no-band one other floor (omega (arith, beyond))) ∙ layout-no-other other one floor (omega (arith, beyond))
+    go (yes known) (no beyond) k = sym (layout-no-other one other floor (omega (arith, beyond))) ∙ layout-no-band other one floor (omega (arith, beyond))
+    go (yes known) (yes known') (no beyond) =
+        sym (layout-no-floor one other floor (λ some most. beyond most)) ∙ layout-no-floor other one floor (λ some most. beyond most)
+    go (yes known) (yes known') (yes few) =
+        eqb-true (layoutFactor one other floor) (layoutFactor other one floor)
+        (at-every 5 _ (at-every 5 _ (at-every 4 _ all-mirrored floor (omega arith)) one (omega arith)) other (omega arith))
