@@ -1,3 +1,4 @@
+-- The laws about the method's definitions that other crates cite.
 pub mod Branches
 pub mod Products
 pub mod Tables
