@@ -1,4 +1,4 @@
--- The laws about the method's definitions that other crates cite.
+-- The laws about the method's definitions that other crates cite, and its theorems on one page.
 pub mod Branches
 pub mod Products
 pub mod Tables
@@ -10,3 +10,4 @@ pub mod Points
 pub mod Fractions
 pub mod Comparisons
 pub mod Examples
+pub mod Theorems
