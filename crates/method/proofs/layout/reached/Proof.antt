@@ -1,8 +1,8 @@
 -- `reached` is what its definition says. Assumes nothing.
 use Prim.Native.Nat.{_*_, _/_, _%_, _≤_}
 use native.Mathlib.Omega.{arith}
-use borrow.Author.Tests.{le-leb, lt-leb}
 use Rattle.method.specs.LayoutFactor.{reached}
+use Rattle.method.proofs.Branches.{branches}
 use Rattle.method.proofs.Products.{times-most, times-fits}
 use Rattle.method.proofs.Bands.{reached-test}
 use Rattle.method.proofs.layout.reached.Statement.{statement}
@@ -28,11 +28,11 @@ add-if1 c = omega (arith, whole-most c, rest-most c)
 
 returns : tie.Need-returns
 unfolding reached
-returns c = rw (← reached-test _ _ _, le-leb _ _ (c .if1 .taken))
+returns c = rw (← reached-test _ _ _) (search branches)
 
 returns-2 : tie.Need-returns-2
 unfolding reached
-returns-2 c = rw (← reached-test _ _ _, lt-leb _ _ (c .if1 .left))
+returns-2 c = rw (← reached-test _ _ _) (search branches)
 
 pub reached-spec : {M : Type 1} → statement M
 reached-spec = tie.close (tie.spec mul-whole mul-rest add-rest add-if1 returns returns-2)
