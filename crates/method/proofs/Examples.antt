@@ -45,7 +45,7 @@ document-table = refl
 
 -- Each law that compares, at numbers that compute: a further premise, a turned conclusion or another number would not fit here.
 
--- A heavy house of one storey, 10 m², zone 90, on ordinary ground; a very heavy one, 40 m², zone 100, on very soft ground, and with 113 for the
+-- A heavy house of one storey, 10 m², zone 90, on ordinary ground; a very heavy one, 40 m², zone 100, on very soft ground, with 113 for the
 -- narrow factor: 3.6 kN becomes 43.392 kN.
 required-risen : 3_600_000_000 ≤ 43_392_000_000
 unfolding constant topLine groundFactor requiredStrength nth

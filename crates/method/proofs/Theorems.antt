@@ -1,5 +1,5 @@
--- The method's theorems on one page, each stated in full and proved elsewhere: the last line of each names the law. What they speak of is defined
--- in specs/. Assumes nothing.
+-- The method's theorems on one page, each stated in full and proved elsewhere: the last line of each names the law. What they speak of is
+-- defined in specs/. Assumes nothing.
 use mathlib.Core.Path.{_≡_}
 use mathlib.Core.List.{[], _∷_}
 use Prim.Native.Nat.{ℕ, _+_, _*_, _<_, _≤_, max}
@@ -45,8 +45,8 @@ document-table = examples.document-table
 pub layout-mirrored : (one other floor : ℕ) → layoutFactor one other floor ≡ layoutFactor other one floor
 layout-mirrored = bands.layout-mirrored
 
--- Deterioration factor. "The points follow from how many items of each weight are in the set": mask by weight, then count ones. 8 is the item of
--- four points, 5,911 are those of two. Under ten years these are all.
+-- Deterioration factor. "The points follow from how many items of each weight are in the set": mask by weight, then count ones. 8 is the
+-- item of four points, 5,911 are those of two. Under ten years these are all.
 pub points-under-ten-masked : (set : ℕ) → 4 * ones (bitAnd set 8) + 2 * ones (bitAnd set 5911) ≡ points itemPointsUnderTen set
 points-under-ten-masked = counts.points-under-ten-masked
 
@@ -54,8 +54,8 @@ points-under-ten-masked = counts.points-under-ten-masked
 pub points-masked : (set : ℕ) → points itemPointsUnderTen set + ones (bitAnd set 2272) ≡ points itemPoints set
 points-masked = counts.points-masked
 
--- A house made worse, number by number. With a heavier class, a higher zone or softer ground no less is required of a storey or an end, nor with a
--- larger area or narrow factor.
+-- A house made worse, number by number. With a heavier class, a higher zone or softer ground no less is required of a storey or an end, nor
+-- with a larger area or narrow factor.
 pub required-rises : (storeys storey : ℕ) {lighter weight smaller area lower zone firmer ground wider narrow : ℕ}
     → lighter ≤ weight → weight ≤ 3 → smaller ≤ area → lower ≤ zone → firmer ≤ ground → wider ≤ narrow
     → requiredStrength storeys storey lighter smaller lower firmer wider ≤ requiredStrength storeys storey weight area zone ground narrow
@@ -75,14 +75,14 @@ pub deterioration-falls : (present fewer marked : ℕ) {younger age : ℕ} → b
     → deteriorationFactor present marked age at-most deteriorationFactor present fewer younger
 deterioration-falls = fractions.deterioration-falls
 
--- Where no more is held, no less is required and the deterioration factor is no higher, the score before the layout factor is no higher, rounding
--- down included.
+-- Where no more is held, no less is required and the deterioration factor is no higher, the score before the layout factor is no higher,
+-- rounding down included.
 pub score-before-falls : {weaker held required more : ℕ} (f g : Fraction) → weaker ≤ held → required ≤ more → g at-most f
     → 0 < required → 0 < f .lower → scoreBeforeLayout weaker more g ≤ scoreBeforeLayout held required f
 score-before-falls = comparisons.score-before-falls
 
--- The full score of a storey and direction that holds so much, and whose ends hold so much: where no less is required of it and of them, the higher
--- band is kept and the deterioration factor is no higher, it is no higher.
+-- The full score of a storey and direction that holds so much, and whose ends hold so much: where no less is required of it and of them, the
+-- higher band is kept and the deterioration factor is no higher, it is no higher, rounding down included.
 pub full-score-falls : (held one other : ℕ) {required more oneRequired oneMore otherRequired otherMore : ℕ} (floor : ℕ) (f g : Fraction)
     → required ≤ more → oneRequired ≤ oneMore → otherRequired ≤ otherMore → g at-most f
     → max (band one oneMore) (band other otherMore) ≡ max (band one oneRequired) (band other otherRequired)
