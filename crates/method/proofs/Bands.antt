@@ -1,23 +1,41 @@
--- Bands and the layout factor: a band never rises as more is required, and with the higher band kept the factor never rises as bands fall.
--- Assumes nothing.
-use mathlib.Core.Path.{_≡_, refl, sym}
-use mathlib.Core.Bool.{Bool, true, not, _&&_, _||_}
+-- Bands and the layout factor: the test by which a band is computed; a band never rises as more is required, and with the higher band kept
+-- the factor never rises as bands fall. Assumes nothing.
+use mathlib.Core.Path.{_≡_, refl, sym, ap, _∙_}
+use mathlib.Core.Bool.{Bool, true, false, not, _&&_, _||_}
 use mathlib.Core.List.{[]}
-use Prim.Native.Nat.{ℕ, _+_, _-_, _*_, _≤_, zero-le, max}
-use native.Mathlib.Nat.{mul-le-mul-left, le-refl, le-trans, add-le-add, min-le-right}
+use Prim.Native.Nat.{ℕ, _+_, _-_, _*_, _/_, _%_, _≤_, zero-le, max}
+use native.Mathlib.Nat.{mul-add, mul-left-comm, mul-le-mul-left, le-refl, le-trans, add-le-add, min-le-right}
 use native.Mathlib.Omega.{arith}
+use native.Mathlib.Decide.{decLe}
 use lib.ListN.{length, getD, List·getD-eq-default}
 use lib.Dec.{eqb, leb, lit≤}
-use borrow.Author.Tests.{leb-true, le-leb, eqb-true, eq-eqb}
+use borrow.Author.Tests.{leb-true, leb-false, le-leb, lt-leb, eqb-true, eq-eqb}
 use Rattle.method.specs.Printed.{nth}
 use Rattle.method.specs.LayoutFactor.{reached, band, floorType, layoutFactors, layoutFactor}
 use Rattle.method.proofs.Tables.{nth-is, nth-none, implied, every, getD-every, nth-every, small, short, everyBelow, at-every}
 use Rattle.method.proofs.Branches.{cond-most, cond-least}
 
+-- The function's test, which has no product beyond 64 bits, is the definition's: limit × required / 100,000, rounded up, is at most what is
+-- held just where limit × required is at most 100,000 × held.
+pub reached-test : (held required limit : ℕ)
+    → leb (limit * (required / 100_000) + (limit * (required % 100_000) + 99_999) / 100_000) held ≡ leb (limit * required) (100_000 * held)
+reached-test held required limit =
+    go (leb (limit * (required / 100_000) + (limit * (required % 100_000) + 99_999) / 100_000) held) refl
+  where
+    apart : limit * required ≡ 100_000 * (limit * (required / 100_000)) + limit * (required % 100_000)
+    apart =
+        let sum : required ≡ 100_000 * (required / 100_000) + required % 100_000 = omega arith in
+        ap (λ (n : ℕ). limit * n) sum ∙ rw (mul-add limit _ _, mul-left-comm limit 100_000 _)
+
+    go : (t : Bool) → leb (limit * (required / 100_000) + (limit * (required % 100_000) + 99_999) / 100_000) held ≡ t
+        → t ≡ leb (limit * required) (100_000 * held)
+    go true e = sym (le-leb (limit * required) (100_000 * held) (omega (arith, apart, leb-true _ held e)))
+    go false e = sym (lt-leb (limit * required) (100_000 * held) (omega (arith, apart, leb-false _ held e)))
+
 -- A limit is reached or not.
 pub reached-most : (held required limit : ℕ) → reached held required limit ≤ 1
 unfolding reached
-reached-most held required limit = cond-most (leb (limit * required) (100000 * held)) (λ e. lit≤ tt) (λ e. lit≤ tt)
+reached-most held required limit = cond-most (leb (limit * required) (100_000 * held)) (λ e. lit≤ tt) (λ e. lit≤ tt)
 
 -- A sufficiency that falls reaches no more limits.
 module _ {weaker held required more : ℕ} (less : weaker ≤ held) (grows : required ≤ more) where
@@ -25,18 +43,18 @@ module _ {weaker held required more : ℕ} (less : weaker ≤ held) (grows : req
   unfolding reached
   reached-falls limit =
       let needs : limit * required ≤ limit * more = mul-le-mul-left limit grows in
-      cond-most (leb (limit * more) (100000 * weaker))
-      (λ e. rw (le-leb (limit * required) (100000 * held) (omega (arith, leb-true (limit * more) (100000 * weaker) e))) (le-refl 1)) (λ e. zero-le)
+      cond-most (leb (limit * more) (100_000 * weaker))
+      (λ e. rw (le-leb (limit * required) (100_000 * held) (omega (arith, leb-true (limit * more) (100_000 * weaker) e))) (le-refl 1)) (λ e. zero-le)
 
   pub band-falls : band weaker more ≤ band held required
   unfolding band
-  band-falls = add-le-add (add-le-add (add-le-add (reached-falls 33) (reached-falls 66)) (reached-falls 100)) (reached-falls 133)
+  band-falls = add-le-add (add-le-add (add-le-add (reached-falls _) (reached-falls _)) (reached-falls _)) (reached-falls _)
 
 pub band-most : (held required : ℕ) → band held required ≤ 4
 unfolding band
 band-most held required =
-    add-le-add (add-le-add (add-le-add (reached-most held required 33) (reached-most held required 66)) (reached-most held required 100))
-    (reached-most held required 133)
+    add-le-add (add-le-add (add-le-add (reached-most held required _) (reached-most held required _)) (reached-most held required _))
+    (reached-most held required _)
 
 -- A floor type stays 1 to 3.
 pub floor-least : {floor : ℕ} (void : ℕ) → 1 ≤ floor → 1 ≤ floorType floor void
@@ -91,17 +109,23 @@ all-falling :
 unfolding everyBelow falling layoutFactor nth
 all-falling = refl
 
--- With the higher band kept the layout factor never rises.
-pub layout-falls : {one other one' other' floor : ℕ} → one ≤ 4 → other ≤ 4 → floor ≤ 3
-    → one' ≤ one → other' ≤ other → max one' other' ≡ max one other → layoutFactor one' other' floor ≤ layoutFactor one other floor
+-- With the higher band kept the layout factor never rises. Where there is no such band or floor type it is 0.
+pub layout-falls : {one other one' other' : ℕ} (floor : ℕ) → one' ≤ one → other' ≤ other → max one' other' ≡ max one other
+    → layoutFactor one' other' floor ≤ layoutFactor one other floor
 unfolding falling
-layout-falls {one} {other} {one'} {other'} {floor} hone hother hfloor lower lower' kept =
-    leb-true (layoutFactor one' other' floor) (layoutFactor one other floor)
-    (implied (leb one' one && leb other' other && eqb (max one' other') (max one other))
-    (at-every 5 _
-    (at-every 5 _ (at-every 5 _ (at-every 5 _ (at-every 4 _ all-falling floor (omega arith)) one (omega arith)) other (omega arith)) one' (omega arith))
-    other' (omega arith))
-    (rw (le-leb one' one lower, le-leb other' other lower', eq-eqb (max one' other') (max one other) kept)))
+layout-falls {one} {other} {one'} {other'} floor lower lower' kept = go (decLe one' 4) (decLe other' 4) (decLe floor 3)
+  where
+    go : Dec (one' ≤ 4) → Dec (other' ≤ 4) → Dec (floor ≤ 3) → layoutFactor one' other' floor ≤ layoutFactor one other floor
+    go (no beyond) h k = rw (← layout-no-band one' other' floor (omega (arith, beyond))) zero-le
+    go (yes known) (no beyond) k = rw (← layout-no-other one' other' floor (omega (arith, beyond))) zero-le
+    go (yes known) (yes known') (no beyond) = rw (← layout-no-floor one' other' floor (λ some most. beyond most)) zero-le
+    go (yes known) (yes known') (yes few) =
+        leb-true (layoutFactor one' other' floor) (layoutFactor one other floor)
+        (implied (leb one' one && leb other' other && eqb (max one' other') (max one other))
+        (at-every 5 _
+        (at-every 5 _ (at-every 5 _ (at-every 5 _ (at-every 4 _ all-falling floor (omega arith)) one (omega arith)) other (omega arith)) one' (omega arith))
+        other' (omega arith))
+        (rw (le-leb one' one lower, le-leb other' other lower', eq-eqb (max one' other') (max one other) kept)))
 
 -- It does not matter which end is which.
 mirrored : ℕ → ℕ → ℕ → Bool
@@ -111,8 +135,15 @@ all-mirrored : everyBelow 4 (λ floor. everyBelow 5 (λ one. everyBelow 5 (λ ot
 unfolding everyBelow mirrored layoutFactor nth
 all-mirrored = refl
 
-pub layout-mirrored : {one other floor : ℕ} → one ≤ 4 → other ≤ 4 → floor ≤ 3 → layoutFactor one other floor ≡ layoutFactor other one floor
+pub layout-mirrored : (one other floor : ℕ) → layoutFactor one other floor ≡ layoutFactor other one floor
 unfolding mirrored
-layout-mirrored {one} {other} {floor} hone hother hfloor =
-    eqb-true (layoutFactor one other floor) (layoutFactor other one floor)
-    (at-every 5 _ (at-every 5 _ (at-every 4 _ all-mirrored floor (omega arith)) one (omega arith)) other (omega arith))
+layout-mirrored one other floor = go (decLe one 4) (decLe other 4) (decLe floor 3)
+  where
+    go : Dec (one ≤ 4) → Dec (other ≤ 4) → Dec (floor ≤ 3) → layoutFactor one other floor ≡ layoutFactor other one floor
+    go (no beyond) h k = sym (layout-no-band one other floor (omega (arith, beyond))) ∙ layout-no-other other one floor (omega (arith, beyond))
+    go (yes known) (no beyond) k = sym (layout-no-other one other floor (omega (arith, beyond))) ∙ layout-no-band other one floor (omega (arith, beyond))
+    go (yes known) (yes known') (no beyond) =
+        sym (layout-no-floor one other floor (λ some most. beyond most)) ∙ layout-no-floor other one floor (λ some most. beyond most)
+    go (yes known) (yes known') (yes few) =
+        eqb-true (layoutFactor one other floor) (layoutFactor other one floor)
+        (at-every 5 _ (at-every 5 _ (at-every 4 _ all-mirrored floor (omega arith)) one (omega arith)) other (omega arith))

@@ -2,27 +2,31 @@
 -- Assumes nothing.
 use mathlib.Core.Path.{_≡_}
 use mathlib.Core.Bool.{false}
-use Prim.Native.Nat.{ℕ, _*_, _/_, _<_, _≤_, max}
-use native.Mathlib.Nat.{le-refl, le-trans, le-of-eq, mul-le-mul, mul-le-mul-left, mul-le-mul-right, mul-pos, mul-assoc, mul-comm, mul-left-comm, le-of-mul-le-mul-right, le-div-iff-mul-le, div-mul-le-self, le-min, min-le-left, min-le-right, lt-of-lt-of-le}
+use Prim.Native.Nat.{ℕ, zero, suc, _*_, _/_, _<_, _≤_, zero-le, min, max}
+use native.Mathlib.Nat.{le-refl, le-trans, le-of-eq, mul-le-mul, mul-le-mul-left, mul-le-mul-right, mul-pos, mul-assoc, mul-comm, mul-left-comm, le-of-mul-le-mul-right, le-div-iff-mul-le, div-mul-le-self, div-zero, le-min, min-le-left, min-le-right}
 use native.Mathlib.Omega.{arith}
 use lib.Dec.{leb, lit≤}
 use borrow.Author.Tests.{leb-false, lt-leb}
 use Rattle.method.specs.declared.deterioration.Fraction.{Fraction}
+use Rattle.method.specs.Held.{mostHeld}
+use Rattle.method.specs.Required.{mostRequired}
 use Rattle.method.specs.LayoutFactor.{band, layoutFactor}
-use Rattle.method.specs.Score.{score, scoreBeforeLayout, verdict}
+use Rattle.method.specs.Deterioration.{_at-most_}
+use Rattle.method.specs.Score.{score, scoreBeforeLayout, cappedScore, verdict}
 use Rattle.method.proofs.Branches.{cond-most, cond-least}
-use Rattle.method.proofs.Bands.{band-falls, band-most, layout-falls}
-use Rattle.method.proofs.Fractions.{_at-most_}
+use Rattle.method.proofs.Bands.{band-falls, layout-falls}
 
--- One quotient is at most another, both rounded down, where it is so with both sides multiplied out.
-pub quotient-le : (a c : ℕ) {b d : ℕ} → 0 < b → 0 < d → a * d ≤ c * b → a / b ≤ c / d
-quotient-le a c {b} {d} hb hd crossed =
+-- One quotient is at most another, both rounded down, where it is so with both sides multiplied out. A quotient by 0 is 0.
+pub quotient-le : (a b c : ℕ) {d : ℕ} → 0 < d → a * d ≤ c * b → a / b ≤ c / d
+quotient-le a zero c hd crossed = rw (div-zero a) zero-le
+quotient-le a (suc n) c {d} hd crossed =
+    let b = suc n in
     let regrouped : a / b * d * b ≡ a / b * b * d = simp (mul-assoc, mul-comm, mul-left-comm) in
     let below : a / b * b * d ≤ a * d = mul-le-mul-right d (div-mul-le-self a b) in
-    le-div-iff-mul-le hd .1 (le-of-mul-le-mul-right (le-trans (le-of-eq regrouped) (le-trans below crossed)) hb)
+    le-div-iff-mul-le hd .1 (le-of-mul-le-mul-right (le-trans (le-of-eq regrouped) (le-trans below crossed)) (omega arith))
 
 regroup : (a b c d : ℕ) → a * b * (c * d) ≡ a * c * (b * d)
-regroup a b c d = simp (mul-assoc, mul-comm, mul-left-comm)
+regroup a b c d = simp (mul-assoc, mul-left-comm)
 
 module _
     {weaker held required more worse layout : ℕ} (f g : Fraction)
@@ -34,37 +38,45 @@ module _
         (mul-le-mul (mul-le-mul (mul-le-mul (mul-le-mul-left 1000 less) lower) grows) falls)
 
     -- The full score, rounding down included.
-    pub score-falls : 0 < required → 0 < f .lower → 0 < g .lower → score weaker more worse g ≤ score held required layout f
+    pub score-falls : 0 < required → 0 < f .lower → score weaker more worse g ≤ score held required layout f
     unfolding score
-    score-falls needs hf hg =
+    score-falls needs hf =
         let lesser = 1000 * weaker * worse * g .upper in
         let greater = 1000 * held * layout * f .upper in
         le-min
         (le-trans (min-le-left (lesser / (more * g .lower)) 999)
-        (quotient-le lesser greater (mul-pos (lt-of-lt-of-le needs grows) hg) (mul-pos needs hf) crossed))
+        (quotient-le lesser (more * g .lower) greater (mul-pos needs hf) crossed))
         (min-le-right (lesser / (more * g .lower)) 999)
 
 -- The score before the layout factor.
 pub score-before-falls : {weaker held required more : ℕ} (f g : Fraction) → weaker ≤ held → required ≤ more → g at-most f
-    → 0 < required → 0 < f .lower → 0 < g .lower → scoreBeforeLayout weaker more g ≤ scoreBeforeLayout held required f
-score-before-falls f g less grows falls needs hf hg = score-falls f g less grows (le-refl 100) falls needs hf hg
+    → 0 < required → 0 < f .lower → scoreBeforeLayout weaker more g ≤ scoreBeforeLayout held required f
+score-before-falls f g less grows falls needs hf = score-falls f g less grows (le-refl _) falls needs hf
 
 -- The full score of a storey and direction whose two ends hold so much, as more is required of it and of them, where the higher band is kept.
-pub full-score-falls : (held one other : ℕ) {required more oneRequired oneMore otherRequired otherMore floor : ℕ} (f g : Fraction)
-    → required ≤ more → oneRequired ≤ oneMore → otherRequired ≤ otherMore → floor ≤ 3 → g at-most f
+pub full-score-falls : (held one other : ℕ) {required more oneRequired oneMore otherRequired otherMore : ℕ} (floor : ℕ) (f g : Fraction)
+    → required ≤ more → oneRequired ≤ oneMore → otherRequired ≤ otherMore → g at-most f
     → max (band one oneMore) (band other otherMore) ≡ max (band one oneRequired) (band other otherRequired)
-    → 0 < required → 0 < f .lower → 0 < g .lower
+    → 0 < required → 0 < f .lower
     → score held more (layoutFactor (band one oneMore) (band other otherMore) floor) g
     ≤ score held required (layoutFactor (band one oneRequired) (band other otherRequired) floor) f
-full-score-falls held one other {oneRequired = oneRequired} {otherRequired = otherRequired} f g grows one-grows other-grows floor falls kept needs hf hg =
+full-score-falls held one other floor f g grows one-grows other-grows falls kept needs hf =
     score-falls f g (le-refl held) grows
-    (layout-falls (band-most one oneRequired) (band-most other otherRequired) floor
-    (band-falls (le-refl one) one-grows) (band-falls (le-refl other) other-grows) kept)
-    falls needs hf hg
+    (layout-falls floor (band-falls (le-refl one) one-grows) (band-falls (le-refl other) other-grows) kept)
+    falls needs hf
 
 pub score-most : (held required layout : ℕ) (f : Fraction) → score held required layout f ≤ 999
 unfolding score
 score-most held required layout f = min-le-right (1000 * held * layout * f .upper / (required * f .lower)) 999
+
+-- Of strengths up to 60,000 kN the score that the function answers is the score.
+pub capped-score : {held required : ℕ} (layout : ℕ) (f : Fraction) → held ≤ mostHeld → required ≤ mostRequired
+    → cappedScore held required layout f ≡ score held required layout f
+unfolding cappedScore
+capped-score {held} {required} layout f holds needs =
+    let held-all : min held mostHeld ≡ held = omega arith in
+    let needed-all : min required mostRequired ≡ required = omega arith in
+    rw (held-all, needed-all)
 
 -- The verdict's number is 1 to 4, and never falls when the least score falls.
 pub verdict-least : (least : ℕ) → 1 ≤ verdict least

@@ -1,92 +1,35 @@
--- Document 01's worked examples on plain numbers, and its table of layout factors, by computation. Assumes nothing.
+-- Document 01's worked examples on plain numbers, its table of layout factors, and an instance of each law that compares, in which a number
+-- really falls, by computation. Assumes nothing.
 use mathlib.Core.Path.{_≡_, refl}
-use mathlib.Core.List.{List, [], _∷_}
-use Prim.Native.Nat.{ℕ}
+use mathlib.Core.List.{[], _∷_}
+use Prim.Native.Nat.{_*_, _≤_}
+use lib.Dec.{lit<, lit≤}
 use Rattle.method.specs.Printed.{nth}
 use Rattle.method.specs.Held.{position, foundationUsed, sharedRow, entry, interpolated, rowFactor, jointFactor, solidShare, openingShare, wallShare}
-use Rattle.method.specs.LayoutFactor.{reached, band, layoutFactor}
-use Rattle.method.specs.Deterioration.{points, countedMarks, factorOf, deteriorationFactor}
-use Rattle.method.specs.Score.{verdict}
-
--- P2 to P9 and P11, and 000's own worked joint factor (its section 4.2).
-abbrev pub worked : List ℕ
-worked =
-    jointFactor 2 2 1 4 31  -- P2: upper storey of two, joint 4, strength 31: its factor
-    ∷ wallShare 2 2 1 1 4 31 4550  -- and of 4,550 mm
-    ∷ jointFactor 2 1 2 4 22  -- P3: ground storey of two, foundation 2, joint 4, strength 22
-    ∷ wallShare 2 1 2 1 4 22 1820
-    ∷ jointFactor 2 1 2 4 31  -- P4: strength 31
-    ∷ wallShare 2 1 2 1 4 31 3640
-    ∷ wallShare 1 1 1 1 1 101 1000  -- P5: strength 101 counts as 100
-    ∷ wallShare 1 1 1 1 1 100 1000
-    ∷ wallShare 1 1 1 2 0 0 3001  -- P6: a window of 3,001 mm
-    ∷ deteriorationFactor 8191 8 2 .upper  -- P7: all present, marks worth 4 (item 4)
-    ∷ deteriorationFactor 8191 8 2 .lower
-    ∷ deteriorationFactor 8191 41 2 .upper  -- worth 7 (items 1, 4, 6)
-    ∷ deteriorationFactor 8191 41 2 .lower
-    ∷ deteriorationFactor 8191 11 2 .upper  -- worth 8 (items 1, 2, 4)
-    ∷ deteriorationFactor 8191 11 2 .lower
-    ∷ deteriorationFactor 8191 2048 1 .upper  -- P8: under ten, corridor (item 12) alone marked
-    ∷ deteriorationFactor 8191 2048 1 .lower
-    ∷ band 33 100000  -- P9: sufficiency exactly 0.33 is B
-    ∷ band 100 100000  -- exactly 1.00 is D
-    ∷ verdict 69  -- P11
-    ∷ verdict 70
-    ∷ verdict 99
-    ∷ verdict 100
-    ∷ verdict 149
-    ∷ verdict 150
-    ∷ jointFactor 2 1 2 2 40  -- 000: strength 4.0, joint II, foundation II, ground storey of two
-    ∷ []
-
-abbrev pub expected : List ℕ
-expected =
-    35  -- P2
-    ∷ 4936750
-    ∷ 96  -- P3
-    ∷ 3843840
-    ∷ 80  -- P4
-    ∷ 9027200
-    ∷ 10000000  -- P5
-    ∷ 10000000
-    ∷ 1800000  -- P6
-    ∷ 20  -- P7: 20/24
-    ∷ 24
-    ∷ 17  -- 17/24
-    ∷ 24
-    ∷ 7  -- 7/10
-    ∷ 10
-    ∷ 1  -- P8: 1
-    ∷ 1
-    ∷ 1  -- P9: B
-    ∷ 3  -- D
-    ∷ 4  -- P11
-    ∷ 3
-    ∷ 3
-    ∷ 2
-    ∷ 2
-    ∷ 1
-    ∷ 85  -- 000: 0.85
-    ∷ []
+use Rattle.method.specs.Required.{topLine, constant, groundFactor, narrowFactor, requiredStrength}
+use Rattle.method.specs.LayoutFactor.{reached, band, floorType, layoutFactor, byFloorType}
+use Rattle.method.specs.Deterioration.{points, fraction, countedMarks, factorOf, deteriorationFactor}
+use Rattle.method.specs.Score.{score, cappedScore, verdict}
+use Rattle.method.specs.Worked.{worked, expected}
+use Rattle.method.proofs.Requirements.{required-rises}
+use Rattle.method.proofs.Bands.{band-falls, layout-falls}
+use Rattle.method.proofs.Fractions.{deterioration-falls}
+use Rattle.method.proofs.Comparisons.{score-before-falls, full-score-falls, capped-score, verdict-rises}
 
 pub worked-out : worked ≡ expected
-unfolding position foundationUsed sharedRow entry interpolated rowFactor jointFactor solidShare openingShare wallShare nth reached band points countedMarks factorOf deteriorationFactor verdict
+unfolding position foundationUsed sharedRow entry interpolated rowFactor jointFactor solidShare openingShare wallShare nth topLine constant groundFactor narrowFactor requiredStrength reached band floorType layoutFactor points countedMarks factorOf deteriorationFactor score cappedScore verdict
 worked-out = refl
 
--- The factors of a pair of bands, A as 0 to E as 4, for floor types 1, 2 and 3.
-abbrev factors : ℕ → ℕ → List ℕ
-factors one other = layoutFactor one other 1 ∷ layoutFactor one other 2 ∷ layoutFactor one other 3 ∷ []
-
--- Document 01's own table, by lower and higher band, is the one that 000 prints.
+-- Document 01's own table, by lower and higher band, A as 0 to E as 4, is the one that 000 prints.
 pub document-table :
-    (factors 0 0 ∷ factors 1 1 ∷ factors 1 2 ∷ factors 2 2 ∷ factors 2 3 ∷ factors 2 4  -- AA, BB, BC, CC, CD, CE
-    ∷ factors 0 1  -- AB
-    ∷ factors 0 2  -- AC
-    ∷ factors 0 3  -- AD
-    ∷ factors 0 4  -- AE
-    ∷ factors 1 3  -- BD
-    ∷ factors 1 4  -- BE
-    ∷ factors 3 3 ∷ factors 3 4 ∷ factors 4 4  -- DD, DE, EE
+    (byFloorType 0 0 ∷ byFloorType 1 1 ∷ byFloorType 1 2 ∷ byFloorType 2 2 ∷ byFloorType 2 3 ∷ byFloorType 2 4  -- AA, BB, BC, CC, CD, CE
+    ∷ byFloorType 0 1  -- AB
+    ∷ byFloorType 0 2  -- AC
+    ∷ byFloorType 0 3  -- AD
+    ∷ byFloorType 0 4  -- AE
+    ∷ byFloorType 1 3  -- BD
+    ∷ byFloorType 1 4  -- BE
+    ∷ byFloorType 3 3 ∷ byFloorType 3 4 ∷ byFloorType 4 4  -- DD, DE, EE
     ∷ [])
     ≡ ((100 ∷ 90 ∷ 80 ∷ []) ∷ (100 ∷ 90 ∷ 80 ∷ []) ∷ (100 ∷ 90 ∷ 80 ∷ []) ∷ (100 ∷ 90 ∷ 80 ∷ []) ∷ (100 ∷ 90 ∷ 80 ∷ []) ∷ (100 ∷ 90 ∷ 80 ∷ [])
     ∷ (70 ∷ 65 ∷ 60 ∷ [])
@@ -99,3 +42,54 @@ pub document-table :
     ∷ [])
 unfolding layoutFactor nth
 document-table = refl
+
+-- Each law that compares, at numbers that compute: a further premise, a turned conclusion or another number would not fit here.
+
+-- A heavy house of one storey, 10 m², zone 90, on ordinary ground; a very heavy one, 40 m², zone 100, on very soft ground, with 113 for the
+-- narrow factor: 3.6 kN becomes 43.392 kN.
+required-risen : 3_600_000_000 ≤ 43_392_000_000
+unfolding constant topLine groundFactor requiredStrength nth
+required-risen =
+    required-rises 1 1 {lighter = 2} {weight = 3} {smaller = 1000} {area = 4000} {lower = 90} {zone = 100} {firmer = 1} {ground = 2} {wider = 100}
+    {narrow = 113} (lit≤ tt) (lit≤ tt) (lit≤ tt) (lit≤ tt) (lit≤ tt) (lit≤ tt)
+
+-- An end that holds 1.3 kN and then 1.2 kN, and of which 3.6 kN and then 4 kN are required: B becomes A.
+band-fallen : 0 ≤ 1
+unfolding band reached
+band-fallen = band-falls {weaker = 1_200_000} {held = 1_300_000} {required = 3_600_000_000} {more = 4_000_000_000} (lit≤ tt) (lit≤ tt)
+
+-- BB becomes BA on floor type 1: 100 becomes 70.
+layout-fallen : 70 ≤ 100
+unfolding layoutFactor nth
+layout-fallen = layout-falls {one = 1} {other = 1} {one' = 1} {other' = 0} 1 (lit≤ tt) (lit≤ tt) refl
+
+-- All present, under ten with item 4 marked, and then ten or more with items 1, 2 and 4: 20/24 becomes 7/10.
+deterioration-fallen : 7 * 24 ≤ 20 * 10
+unfolding points countedMarks factorOf deteriorationFactor
+deterioration-fallen = deterioration-falls 8191 8 11 {younger = 1} {age = 2} refl (lit≤ tt)
+
+-- P10's storey before the layout factor, at zone 90 and at zone 100: 16 becomes 14.
+score-before-fallen : 14 ≤ 16
+unfolding score
+score-before-fallen =
+    score-before-falls {weaker = 2_340_000} {held = 2_340_000} {required = 14_400_000_000} {more = 16_000_000_000} (fraction 1 1) (fraction 1 1)
+    (lit≤ tt) (lit≤ tt) (lit≤ tt) (lit< tt) (lit< tt)
+
+-- P1's storey with ends that hold 2 kN and 1.3 kN, at zone 90 without marks and then at zone 100 with marks worth 4. The better end stays in
+-- band B, and the other falls from B to A: 22 becomes 12.
+full-score-fallen : 12 ≤ 22
+unfolding score layoutFactor nth band reached
+full-score-fallen =
+    full-score-falls 3_300_000 2_000_000 1_300_000 {required = 14_400_000_000} {more = 16_000_000_000}
+    {oneRequired = 3_600_000_000} {oneMore = 4_000_000_000} {otherRequired = 3_600_000_000} {otherMore = 4_000_000_000} 1
+    (fraction 1 1) (fraction 20 24) (lit≤ tt) (lit≤ tt) (lit≤ tt) (lit≤ tt) refl (lit< tt) (lit< tt)
+
+-- A least score of 150 that becomes 69: verdict 1 becomes 4.
+verdict-risen : 1 ≤ 4
+unfolding verdict
+verdict-risen = verdict-rises {lower = 69} {least = 150} (lit≤ tt)
+
+-- With 60,000 kN both held and required, what is computed is still the score.
+capped-at-most : cappedScore 60_000_000_000 60_000_000_000_000 100 (fraction 1 1) ≡ 100
+unfolding score
+capped-at-most = capped-score {held = 60_000_000_000} {required = 60_000_000_000_000} 100 (fraction 1 1) (lit≤ tt) (lit≤ tt)

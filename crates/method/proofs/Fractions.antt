@@ -8,7 +8,7 @@ use lib.Dec.{eqb, ltb, lit<, lit≤}
 use lib.Bits.{bitAnd}
 use borrow.Author.Tests.{eqb-true, eqb-false, ltb-true, ltb-false}
 use Rattle.method.specs.declared.deterioration.Fraction.{Fraction}
-use Rattle.method.specs.Deterioration.{itemPoints, points, countedMarks, fraction, factorOf, deteriorationFactor}
+use Rattle.method.specs.Deterioration.{itemPoints, points, countedMarks, fraction, _at-most_, factorOf, deteriorationFactor}
 use Rattle.method.proofs.Points.{points-most, counted-rise}
 
 -- A fraction from 7/10 to 1, of numbers up to 24.
@@ -17,11 +17,6 @@ pub record Bounded (f : Fraction) : Type 0 where
   pub never-below : 7 * f .lower ≤ 10 * f .upper
   pub at-most-one : f .upper ≤ f .lower
   pub lower-at-most : f .lower ≤ 24
-
--- One fraction is at most another, with both sides multiplied out.
-infix 40 _at-most_
-abbrev pub _at-most_ : Fraction → Fraction → Type 0
-f at-most g = f .upper * g .lower ≤ g .upper * f .lower
 
 -- A choice between two fractions.
 cond-bounded : (t : Bool) {f g : Fraction} → (t ≡ true → Bounded f) → (t ≡ false → Bounded g) → Bounded (cond t f g)

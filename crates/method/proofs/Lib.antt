@@ -1,3 +1,4 @@
+-- The laws about the method's definitions that other crates cite, and its theorems on one page.
 pub mod Branches
 pub mod Products
 pub mod Tables
@@ -9,3 +10,4 @@ pub mod Points
 pub mod Fractions
 pub mod Comparisons
 pub mod Examples
+pub mod Theorems

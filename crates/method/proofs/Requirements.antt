@@ -1,8 +1,8 @@
 -- The required strength never falls with weight class, zone or ground, is positive, and has a most. Assumes nothing.
 use mathlib.Core.Path.{_≡_, refl, sym}
 use mathlib.Core.Bool.{Bool, true, false, not, _&&_, _||_}
-use mathlib.Core.List.{[]}
-use Prim.Native.Nat.{ℕ, _+_, _-_, _<_, _≤_}
+use mathlib.Core.List.{List, []}
+use Prim.Native.Nat.{ℕ, _+_, _-_, _<_, _≤_, zero-le}
 use native.Mathlib.Nat.{mul-le-mul, mul-pos, le-refl, le-trans}
 use native.Mathlib.Omega.{arith}
 use lib.ListN.{length, getD}
@@ -10,7 +10,7 @@ use lib.Dec.{eqb, leb, ltb, lit≤}
 use borrow.Author.Tests.{leb-true, ltb-true, ltb-false, le-leb, le-ltb}
 use Rattle.method.specs.Printed.{nth}
 use Rattle.method.specs.Required.{constants, topLine, constant, groundFactor, narrowFactor, requiredStrength, mostRequired}
-use Rattle.method.proofs.Tables.{nth-is, nth-none, and-true, implied, every, getD-every, nth-every, small, short, everyBelow, at-every}
+use Rattle.method.proofs.Tables.{nth-is, nth-none, implied, every, getD-every, nth-every, small, short, everyBelow, at-every}
 use Rattle.method.proofs.Branches.{cond-most, cond-least, cond-same}
 
 -- Three storeys begin at line 3, and no number of storeys later.
@@ -38,32 +38,49 @@ module _ (storeys storey weight : ℕ) where
         rw (le-leb 1 storey some, le-leb storey storeys most, le-leb storeys 3 few)
         (sym (nth-is (getD constants (topLine storeys + (storeys - storey)) []) weight 0 class))
 
--- The test of table 4.1: along a line, from one weight class to this one or a heavier, constants are positive and never fall.
-rising : ℕ → ℕ → ℕ → ℕ → Bool
-rising storeys storey lighter weight =
-    not (leb 1 storey && leb storey storeys && leb 1 lighter && leb lighter weight)
-    || (ltb 0 (constant storeys storey lighter) && leb (constant storeys storey lighter) (constant storeys storey weight))
+-- The test of table 4.1: every constant of a house is positive.
+positive : ℕ → ℕ → ℕ → Bool
+positive storeys storey weight = not (leb 1 storey && leb storey storeys && leb 1 weight) || ltb 0 (constant storeys storey weight)
 
-all-rising : everyBelow 4 (λ storeys. everyBelow 4 (λ storey. everyBelow 4 (λ lighter. everyBelow 4 (λ weight. rising storeys storey lighter weight)))) ≡ true
-unfolding everyBelow rising constant topLine nth
+all-positive : everyBelow 4 (λ storeys. everyBelow 4 (λ storey. everyBelow 4 (λ weight. positive storeys storey weight))) ≡ true
+unfolding everyBelow positive constant topLine nth
+all-positive = refl
+
+pub constant-positive : {storeys storey weight : ℕ} → 1 ≤ storey → storey ≤ storeys → storeys ≤ 3 → 1 ≤ weight → weight ≤ 3
+    → 0 < constant storeys storey weight
+unfolding positive
+constant-positive {storeys} {storey} {weight} some most few class last =
+    ltb-true 0 (constant storeys storey weight)
+    (implied (leb 1 storey && leb storey storeys && leb 1 weight)
+    (at-every 4 _ (at-every 4 _ (at-every 4 _ all-positive storeys (omega arith)) storey (omega arith)) weight (omega arith))
+    (rw (le-leb 1 storey some, le-leb storey storeys most, le-leb 1 weight class)))
+
+-- And along a line, from one weight class to this one or a heavier, constants never fall.
+rising : List ℕ → Bool
+rising line = everyBelow 4 (λ lighter. everyBelow 4 (λ weight. not (leb lighter weight) || leb (nth line lighter 0) (nth line weight 0)))
+
+all-rising : every rising constants ≡ true
+unfolding everyBelow rising nth
 all-rising = refl
 
-module _ {storeys storey : ℕ} (some : 1 ≤ storey) (most : storey ≤ storeys) (few : storeys ≤ 3) where
-  module _ {lighter weight : ℕ} (class : 1 ≤ lighter) (heavier : lighter ≤ weight) (last : weight ≤ 3) where
-    constant-test : ltb 0 (constant storeys storey lighter) && leb (constant storeys storey lighter) (constant storeys storey weight) ≡ true
-    unfolding rising
-    constant-test =
-        implied (leb 1 storey && leb storey storeys && leb 1 lighter && leb lighter weight)
-        (at-every 4 _
-        (at-every 4 _ (at-every 4 _ (at-every 4 _ all-rising storeys (omega arith)) storey (omega arith)) lighter (omega arith))
-        weight (omega arith))
-        (rw (le-leb 1 storey some, le-leb storey storeys most, le-leb 1 lighter class, le-leb lighter weight heavier))
+none-rising : rising [] ≡ true
+unfolding everyBelow rising nth
+none-rising = refl
 
-    pub constant-positive : 0 < constant storeys storey lighter
-    constant-positive = ltb-true 0 (constant storeys storey lighter) (and-true (ltb 0 (constant storeys storey lighter)) _ constant-test .0)
+module _ {lighter weight : ℕ} (heavier : lighter ≤ weight) (last : weight ≤ 3) where
+  line-rises : (n : ℕ) → nth (getD constants n []) lighter 0 ≤ nth (getD constants n []) weight 0
+  unfolding rising
+  line-rises n =
+      let line = getD constants n [] in
+      leb-true (nth line lighter 0) (nth line weight 0)
+      (implied (leb lighter weight)
+      (at-every 4 _ (at-every 4 _ (getD-every rising none-rising constants all-rising n) lighter (omega arith)) weight (omega arith))
+      (le-leb lighter weight heavier))
 
-    pub constant-rises : constant storeys storey lighter ≤ constant storeys storey weight
-    constant-rises = leb-true _ (constant storeys storey weight) (and-true (ltb 0 (constant storeys storey lighter)) _ constant-test .1)
+  pub constant-rises : (storeys storey : ℕ) → constant storeys storey lighter ≤ constant storeys storey weight
+  unfolding constant
+  constant-rises storeys storey =
+      cond-most (leb 1 storey && leb storey storeys && leb storeys 3) (λ e. rw e (line-rises (topLine storeys + (storeys - storey)))) (λ e. zero-le)
 
 -- Very soft ground asks for more, and the factor is at least 10.
 ground-least : (ground : ℕ) → 10 ≤ groundFactor ground
@@ -97,21 +114,20 @@ constant-most storeys storey weight =
     (λ e. leb-true _ 207 (nth-every (small 207) refl (getD constants line []) (getD-every (every (small 207)) refl constants refl line) weight)) (λ e. lit≤ tt)
 
 -- The required strength of a storey or an end. It never falls with weight class, zone or ground, nor with area or narrow factor.
-pub required-rises : {storeys storey lighter weight smaller area lower zone firmer ground wider narrow : ℕ}
-    → 1 ≤ storey → storey ≤ storeys → storeys ≤ 3 → 1 ≤ lighter → lighter ≤ weight → weight ≤ 3
-    → smaller ≤ area → lower ≤ zone → firmer ≤ ground → wider ≤ narrow
+pub required-rises : (storeys storey : ℕ) {lighter weight smaller area lower zone firmer ground wider narrow : ℕ}
+    → lighter ≤ weight → weight ≤ 3 → smaller ≤ area → lower ≤ zone → firmer ≤ ground → wider ≤ narrow
     → requiredStrength storeys storey lighter smaller lower firmer wider ≤ requiredStrength storeys storey weight area zone ground narrow
 unfolding requiredStrength
-required-rises some most few class heavier last larger higher softer narrower =
-    mul-le-mul (mul-le-mul (mul-le-mul (mul-le-mul (constant-rises some most few class heavier last) larger) higher) (ground-rises softer)) narrower
+required-rises storeys storey heavier last larger higher softer narrower =
+    mul-le-mul (mul-le-mul (mul-le-mul (mul-le-mul (constant-rises heavier last storeys storey) larger) higher) (ground-rises softer)) narrower
 
 pub required-positive : {storeys storey weight area zone narrow : ℕ} (ground : ℕ)
     → 1 ≤ storey → storey ≤ storeys → storeys ≤ 3 → 1 ≤ weight → weight ≤ 3 → 0 < area → 0 < zone → 0 < narrow
     → 0 < requiredStrength storeys storey weight area zone ground narrow
 unfolding requiredStrength
-required-positive {weight = weight} ground some most few class last area zone narrow =
+required-positive ground some most few class last area zone narrow =
     mul-pos
-    (mul-pos (mul-pos (mul-pos (constant-positive some most few class (le-refl weight) last) area) zone) (le-trans (lit≤ tt) (ground-least ground)))
+    (mul-pos (mul-pos (mul-pos (constant-positive some most few class last) area) zone) (le-trans (lit≤ tt) (ground-least ground)))
     narrow
 
 pub required-most : (storeys storey weight ground : ℕ) {area zone narrow : ℕ} → area ≤ 50000 → zone ≤ 100 → narrow ≤ 113

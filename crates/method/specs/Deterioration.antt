@@ -1,7 +1,7 @@
 -- How far deterioration lowers a house's strength. Document 01, "Deterioration factor".
 use mathlib.Core.Bool.{cond, _&&_}
 use mathlib.Core.List.{List, [], _∷_}
-use Prim.Native.Nat.{ℕ, _+_, _-_, _*_, _/_, _%_}
+use Prim.Native.Nat.{ℕ, _+_, _-_, _*_, _/_, _%_, _≤_}
 use lib.Dec.{eqb, ltb}
 use Rattle.method.specs.declared.deterioration.Fraction.{Fraction}
 
@@ -40,6 +40,11 @@ countedMarks marked age = cond (ltb age 2 && eqb (points itemPointsUnderTen mark
 -- A factor as a fraction, which document 02 calls its upper and lower number.
 abbrev pub fraction : ℕ → ℕ → Fraction
 fraction upper lower = record { upper = upper; lower = lower }
+
+-- One factor is at most another, with both sides multiplied out.
+infix 40 _at-most_
+abbrev pub _at-most_ : Fraction → Fraction → Type 0
+f at-most g = f .upper * g .lower ≤ g .upper * f .lower
 
 -- "With no counted mark the factor is 1. Else it is (present − marked) / present in points, never below 7/10." It is below where
 -- 10 × (present − marked) < 7 × present, here with 10 × marked added to both sides.

@@ -96,6 +96,6 @@ unfoldable pub heldStrength : List ℕ → ℕ
 heldStrength [] = 0
 heldStrength (share ∷ shares) = share + heldStrength shares
 
--- 60,000 kN, which no storey's walls exceed. Where bands and scores are computed, a held strength above this counts as this.
+-- 60,000 kN, which no storey's walls exceed. Where scores are computed, a held strength above this counts as this (`cappedScore`).
 abbrev pub mostHeld : ℕ
-mostHeld = 60000000000
+mostHeld = 60_000_000_000

@@ -9,7 +9,7 @@ use Rattle.method.specs.Printed.{nth}
 -- "Sufficiency of an end is its solid walls' held strength over its required strength", here 1 where it is at least so many hundredths and 0
 -- where it is under them, "compared exactly". A unit of held strength is 1,000 units of required strength.
 unfoldable pub reached : ℕ → ℕ → ℕ → ℕ
-reached held required limit = cond (leb (limit * required) (100000 * held)) 1 0
+reached held required limit = cond (leb (limit * required) (100_000 * held)) 1 0
 
 -- "Bands: A under 0.33, B from 0.33, C from 0.66, D from 1.00, E from 1.33", as the number of those limits that are reached: A is 0, E is 4.
 unfoldable pub band : ℕ → ℕ → ℕ
@@ -33,3 +33,7 @@ layoutFactors =
 -- The layout factor for the bands of both ends and a floor type; 0 where there is no such band or floor type.
 unfoldable pub layoutFactor : ℕ → ℕ → ℕ → ℕ
 layoutFactor one other floor = nth (getD (getD layoutFactors one []) other []) floor 0
+
+-- The factors of a pair of bands "by floor type 1/2/3", an entry of document 01's own table.
+abbrev pub byFloorType : ℕ → ℕ → List ℕ
+byFloorType one other = layoutFactor one other 1 ∷ layoutFactor one other 2 ∷ layoutFactor one other 3 ∷ []

@@ -5,3 +5,4 @@ pub mod Required
 pub mod LayoutFactor
 pub mod Deterioration
 pub mod Score
+pub mod Worked

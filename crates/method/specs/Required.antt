@@ -44,6 +44,7 @@ narrowFactor storeys storey side = cond (leb 2 storeys && eqb storey 1 && ltb si
 unfoldable pub requiredStrength : ℕ → ℕ → ℕ → ℕ → ℕ → ℕ → ℕ → ℕ
 requiredStrength storeys storey weight area zone ground narrow = constant storeys storey weight * area * zone * groundFactor ground * narrow
 
--- 60,000 kN in this unit, more than a storey can need. Where bands and scores are computed, a required strength above this counts as this.
+-- 60,000 kN in this unit, more than a storey can need. Where scores are computed, a required strength above this counts as this
+-- (`cappedScore`).
 abbrev pub mostRequired : ℕ
 mostRequired = 1000 * mostHeld

@@ -54,8 +54,8 @@ fn counted_marks(marked: u32, age: u32) -> u32
 
 // The factor of points present and points marked.
 fn factor_of(present: u32, marked: u32) -> Fraction
-    requires { ⌜ present ≤ 24 ⌝ }
-    requires { ⌜ marked ≤ 24 ⌝ }
+    requires present { ⌜ present ≤ 24 ⌝ }
+    requires marked { ⌜ marked ≤ 24 ⌝ }
     ensures { λ r. ⌜ r ≡ factorOf present marked ⌝ }
 {
     if marked == 0 {

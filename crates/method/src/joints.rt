@@ -93,10 +93,10 @@ fn entry(position: u32, foundation: u32, joint: u32, column: usize) -> u8
 
 // The straight line from one strength and its entry to the next, to the nearest hundredth, half up.
 fn interpolated(from: u32, to: u32, left: u8, right: u8, strength: u32) -> u32
-    requires { ⌜ from < to ⌝ }
-    requires { ⌜ to ≤ 70 ⌝ }
-    requires { ⌜ from ≤ strength ⌝ }
-    requires { ⌜ strength < to ⌝ }
+    requires width { ⌜ from < to ⌝ }
+    requires most { ⌜ to ≤ 70 ⌝ }
+    requires above { ⌜ from ≤ strength ⌝ }
+    requires below { ⌜ strength < to ⌝ }
     ensures { λ r. ⌜ r ≡ interpolated from to left right strength ⌝ }
 {
     let width = to - from;

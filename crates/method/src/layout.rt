@@ -1,11 +1,6 @@
 // How far the layout of walls lowers a storey's strength: the bands of its ends, and its floor.
-use crate::limits::MOST_HELD;
-use crate::limits::MOST_REQUIRED;
-use crate::limits::smaller;
 ghost use mathlib.Core.Path.{_≡_};
-ghost use Prim.Native.Nat.{_≤_, min};
-ghost use Rattle.method.specs.Held.{mostHeld};
-ghost use Rattle.method.specs.Required.{mostRequired};
+ghost use Prim.Native.Nat.{_≤_};
 ghost use Rattle.method.specs.LayoutFactor.{reached, band, floorType, layoutFactor};
 
 // 000's explanatory table 4.11, in hundredths: the band of one end, then that of the other, each pair for
@@ -48,30 +43,29 @@ const LAYOUT_FACTORS: [[[u8; 3]; 5]; 5] = [
     ],
 ];
 
-// 1 where an end's sufficiency is at least so many hundredths, else 0.
+// 1 where an end's sufficiency is at least so many hundredths, else 0. That is where limit × required
+// is at most 100,000 × held, but such products may be beyond a u64. So the required strength is taken
+// apart, and limit × required / 100,000, rounded up, is compared with what is held.
 fn reached(held: u64, required: u64, limit: u64) -> u32
-    requires { ⌜ held ≤ mostHeld ⌝ }
-    requires { ⌜ required ≤ mostRequired ⌝ }
     requires { ⌜ limit ≤ 133 ⌝ }
     ensures { λ r. ⌜ r ≡ reached held required limit ⌝ }
 {
-    if limit * required <= 100000 * held {
+    let whole = limit * (required / 100_000);
+    let rest = (limit * (required % 100_000) + 99_999) / 100_000;
+    if whole + rest <= held {
         return 1;
     }
     0
 }
 
 // The band of an end, A as 0 to E as 4, by its solid walls' held strength and its required strength.
-// Strengths above 60,000 kN count as that.
 pub fn band(held: u64, required: u64) -> u32
-    ensures { λ r. ⌜ r ≡ band (min held mostHeld) (min required mostRequired) ⌝ }
+    ensures { λ r. ⌜ r ≡ band held required ⌝ }
 {
-    let holds = smaller(held, MOST_HELD);
-    let needs = smaller(required, MOST_REQUIRED);
-    reached(holds, needs, 33)
-        + reached(holds, needs, 66)
-        + reached(holds, needs, 100)
-        + reached(holds, needs, 133)
+    reached(held, required, 33)
+        + reached(held, required, 66)
+        + reached(held, required, 100)
+        + reached(held, required, 133)
 }
 
 // The floor type that counts, where there is a void (1) or none (0).

@@ -23,5 +23,4 @@ pub use layout::layout_factor;
 pub use required::narrow_factor;
 pub use required::required_strength;
 pub use scores::score;
-pub use scores::score_before_layout;
 pub use scores::verdict;

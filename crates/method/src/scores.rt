@@ -4,15 +4,12 @@ use crate::limits::MOST_HELD;
 use crate::limits::MOST_REQUIRED;
 use crate::limits::smaller;
 ghost use mathlib.Core.Path.{_≡_};
-ghost use Prim.Native.Nat.{min};
-ghost use Rattle.method.specs.Held.{mostHeld};
-ghost use Rattle.method.specs.Required.{mostRequired};
-ghost use Rattle.method.specs.Score.{score, scoreBeforeLayout, verdict};
+ghost use Rattle.method.specs.Score.{cappedScore, verdict};
 
 // The score of a held strength, a required strength, a layout factor in hundredths and a deterioration
 // factor. Strengths above 60,000 kN count as that. Where nothing is required, as in no house, it is 0.
 pub fn score(held: u64, required: u64, layout: u8, deterioration: Fraction) -> u32
-    ensures { λ r. ⌜ r ≡ score (min held mostHeld) (min required mostRequired) layout deterioration ⌝ }
+    ensures { λ r. ⌜ r ≡ cappedScore held required layout deterioration ⌝ }
 {
     let holds = smaller(held, MOST_HELD);
     let needs = smaller(required, MOST_REQUIRED);
@@ -22,13 +19,6 @@ pub fn score(held: u64, required: u64, layout: u8, deterioration: Fraction) -> u
     }
     let dividend = 1000 * holds * layout as u64 * deterioration.upper as u64;
     smaller(dividend / divisor, 999) as u32
-}
-
-// The score before the layout factor: with 100 for it.
-pub fn score_before_layout(held: u64, required: u64, deterioration: Fraction) -> u32
-    ensures { λ r. ⌜ r ≡ scoreBeforeLayout (min held mostHeld) (min required mostRequired) deterioration ⌝ }
-{
-    score(held, required, 100, deterioration)
 }
 
 // The verdict of a house's least score, 1 to 4.

@@ -7,12 +7,6 @@ use Rattle.method.proofs.Bands.{reached-most}
 use Rattle.method.proofs.layout.band.Statement.{statement}
 use Rattle.method.proofs.layout.band.Tie as tie
 
-smaller-requires : tie.Need-smaller-requires
-smaller-requires c κs = search needs
-
-smaller-requires-2 : tie.Need-smaller-requires-2
-smaller-requires-2 c κs = search needs
-
 reached-requires : tie.Need-reached-requires
 reached-requires c κs = search needs
 
@@ -49,23 +43,12 @@ add-result-3 c = omega (arith, one (c .before .before .before), two (c .before .
 returns : tie.Need-returns
 unfolding band
 returns c =
-    let at-first = c .before .before .before in
-    let at-smaller = at-first .before .before in
-    rw (
-      ← at-smaller .smaller .ensures,
-      ← at-first .before .smaller2 .ensures,
-      ← at-first .reached .ensures,
-      ← c .before .before .reached2 .ensures,
-      ← c .before .reached3 .ensures,
-      ← c .reached4 .ensures,
-    )
+    rw (← c .before .before .before .reached .ensures, ← c .before .before .reached2 .ensures, ← c .before .reached3 .ensures, ← c .reached4 .ensures)
 
 pub band-spec : {M : Type 1} → statement M
 band-spec =
     tie.close
     (tie.spec
-    smaller-requires
-    smaller-requires-2
     reached-requires
     reached-requires-2
     add-result

@@ -5,7 +5,7 @@ use native.Mathlib.Omega.{arith}
 use borrow.Author.Needs.{needs}
 use Rattle.method.specs.Held.{mostHeld}
 use Rattle.method.specs.Required.{mostRequired}
-use Rattle.method.specs.Score.{score}
+use Rattle.method.specs.Score.{score, cappedScore}
 use Rattle.method.proofs.Products.{times-most, times-fits}
 use Rattle.method.proofs.scores.score.Statement.{statement}
 use Rattle.method.proofs.scores.score.Tie as tie
@@ -29,7 +29,7 @@ mul-divisor : tie.Need-mul-divisor
 mul-divisor c = times-fits mostRequired 255 (needs-most (c .before)) (omega arith) tt
 
 returns : tie.Need-returns
-unfolding score
+unfolding score cappedScore
 returns c =
     let at-smaller = c .before .before .before in
     let args = at-smaller .before .args in
@@ -59,7 +59,7 @@ cast-result : tie.Need-cast-result
 cast-result c = search needs
 
 returns-2 : tie.Need-returns-2
-unfolding score
+unfolding score cappedScore
 returns-2 c =
     let at-needs = c .before .before .before .before in
     rw (← at-needs .before .smaller .ensures, ← at-needs .smaller2 .ensures) (c .smaller3 .ensures)

@@ -1,0 +1,105 @@
+-- The method's theorems on one page, each stated in full and proved elsewhere: the last line of each names the law. What they speak of is
+-- defined in specs/. Assumes nothing.
+use mathlib.Core.Path.{_≡_}
+use mathlib.Core.List.{[], _∷_}
+use Prim.Native.Nat.{ℕ, _+_, _*_, _<_, _≤_, max}
+use lib.Bits.{bitAnd}
+use lib.Count.{ones}
+use Rattle.method.specs.declared.deterioration.Fraction.{Fraction}
+use Rattle.method.specs.Held.{mostHeld}
+use Rattle.method.specs.Required.{requiredStrength, mostRequired}
+use Rattle.method.specs.LayoutFactor.{band, layoutFactor, byFloorType}
+use Rattle.method.specs.Deterioration.{itemPoints, itemPointsUnderTen, points, _at-most_, deteriorationFactor}
+use Rattle.method.specs.Score.{score, scoreBeforeLayout, cappedScore, verdict}
+use Rattle.method.specs.Worked.{worked, expected}
+use Rattle.method.proofs.Requirements as requirements
+use Rattle.method.proofs.Bands as bands
+use Rattle.method.proofs.Points as counts
+use Rattle.method.proofs.Fractions as fractions
+use Rattle.method.proofs.Comparisons as comparisons
+use Rattle.method.proofs.Examples as examples
+
+-- Layout factor. Document 01's table, by lower and higher band (A is 0, E is 4) and by floor type 1/2/3, is what the layout factor gives.
+pub document-table :
+    (byFloorType 0 0 ∷ byFloorType 1 1 ∷ byFloorType 1 2 ∷ byFloorType 2 2 ∷ byFloorType 2 3 ∷ byFloorType 2 4  -- AA, BB, BC, CC, CD, CE
+    ∷ byFloorType 0 1  -- AB
+    ∷ byFloorType 0 2  -- AC
+    ∷ byFloorType 0 3  -- AD
+    ∷ byFloorType 0 4  -- AE
+    ∷ byFloorType 1 3  -- BD
+    ∷ byFloorType 1 4  -- BE
+    ∷ byFloorType 3 3 ∷ byFloorType 3 4 ∷ byFloorType 4 4  -- DD, DE, EE
+    ∷ [])
+    ≡ ((100 ∷ 90 ∷ 80 ∷ []) ∷ (100 ∷ 90 ∷ 80 ∷ []) ∷ (100 ∷ 90 ∷ 80 ∷ []) ∷ (100 ∷ 90 ∷ 80 ∷ []) ∷ (100 ∷ 90 ∷ 80 ∷ []) ∷ (100 ∷ 90 ∷ 80 ∷ [])
+    ∷ (70 ∷ 65 ∷ 60 ∷ [])
+    ∷ (65 ∷ 60 ∷ 55 ∷ [])
+    ∷ (60 ∷ 55 ∷ 50 ∷ [])
+    ∷ (55 ∷ 50 ∷ 45 ∷ [])
+    ∷ (75 ∷ 70 ∷ 60 ∷ [])
+    ∷ (70 ∷ 65 ∷ 55 ∷ [])
+    ∷ (100 ∷ 100 ∷ 100 ∷ []) ∷ (100 ∷ 100 ∷ 100 ∷ []) ∷ (100 ∷ 100 ∷ 100 ∷ [])
+    ∷ [])
+document-table = examples.document-table
+
+-- It does not matter which end is which.
+pub layout-mirrored : (one other floor : ℕ) → layoutFactor one other floor ≡ layoutFactor other one floor
+layout-mirrored = bands.layout-mirrored
+
+-- Deterioration factor. "The points follow from how many items of each weight are in the set": mask by weight, then count ones. 8 is the
+-- item of four points, 5,911 are those of two. Under ten years these are all.
+pub points-under-ten-masked : (set : ℕ) → 4 * ones (bitAnd set 8) + 2 * ones (bitAnd set 5911) ≡ points itemPointsUnderTen set
+points-under-ten-masked = counts.points-under-ten-masked
+
+-- 2,272 are the items of one point.
+pub points-masked : (set : ℕ) → points itemPointsUnderTen set + ones (bitAnd set 2272) ≡ points itemPoints set
+points-masked = counts.points-masked
+
+-- A house made worse, number by number. With a heavier class, a higher zone or softer ground no less is required of a storey or an end, nor
+-- with a larger area or narrow factor.
+pub required-rises : (storeys storey : ℕ) {lighter weight smaller area lower zone firmer ground wider narrow : ℕ}
+    → lighter ≤ weight → weight ≤ 3 → smaller ≤ area → lower ≤ zone → firmer ≤ ground → wider ≤ narrow
+    → requiredStrength storeys storey lighter smaller lower firmer wider ≤ requiredStrength storeys storey weight area zone ground narrow
+required-rises = requirements.required-rises
+
+-- An end that holds no more, and of which no less is required, is in no higher band.
+pub band-falls : {weaker held required more : ℕ} → weaker ≤ held → required ≤ more → band weaker more ≤ band held required
+band-falls = bands.band-falls
+
+-- Where neither end's band is higher and the higher band is kept, the layout factor is no higher.
+pub layout-falls : {one other one' other' : ℕ} (floor : ℕ) → one' ≤ one → other' ≤ other → max one' other' ≡ max one other
+    → layoutFactor one' other' floor ≤ layoutFactor one other floor
+layout-falls = bands.layout-falls
+
+-- With the same parts, every mark of the other house and no fewer years the deterioration factor is no higher.
+pub deterioration-falls : (present fewer marked : ℕ) {younger age : ℕ} → bitAnd fewer marked ≡ fewer → younger ≤ age
+    → deteriorationFactor present marked age at-most deteriorationFactor present fewer younger
+deterioration-falls = fractions.deterioration-falls
+
+-- Where no more is held, no less is required and the deterioration factor is no higher, the score before the layout factor is no higher,
+-- rounding down included.
+pub score-before-falls : {weaker held required more : ℕ} (f g : Fraction) → weaker ≤ held → required ≤ more → g at-most f
+    → 0 < required → 0 < f .lower → scoreBeforeLayout weaker more g ≤ scoreBeforeLayout held required f
+score-before-falls = comparisons.score-before-falls
+
+-- The full score of a storey and direction that holds so much, and whose ends hold so much: where no less is required of it and of them, the
+-- higher band is kept and the deterioration factor is no higher, it is no higher, rounding down included.
+pub full-score-falls : (held one other : ℕ) {required more oneRequired oneMore otherRequired otherMore : ℕ} (floor : ℕ) (f g : Fraction)
+    → required ≤ more → oneRequired ≤ oneMore → otherRequired ≤ otherMore → g at-most f
+    → max (band one oneMore) (band other otherMore) ≡ max (band one oneRequired) (band other otherRequired)
+    → 0 < required → 0 < f .lower
+    → score held more (layoutFactor (band one oneMore) (band other otherMore) floor) g
+    ≤ score held required (layoutFactor (band one oneRequired) (band other otherRequired) floor) f
+full-score-falls = comparisons.full-score-falls
+
+-- With a lower least score the verdict's number is no lower.
+pub verdict-rises : {lower least : ℕ} → lower ≤ least → verdict least ≤ verdict lower
+verdict-rises = comparisons.verdict-rises
+
+-- Of strengths up to 60,000 kN, which no storey of a house exceeds, what the function `score` answers is the score.
+pub capped-score : {held required : ℕ} (layout : ℕ) (f : Fraction) → held ≤ mostHeld → required ≤ mostRequired
+    → cappedScore held required layout f ≡ score held required layout f
+capped-score = comparisons.capped-score
+
+-- Houses worked through: document 01's numbers, and one for each definition that its examples leave open.
+pub worked-out : worked ≡ expected
+worked-out = examples.worked-out

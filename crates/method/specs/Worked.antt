@@ -1,0 +1,178 @@
+-- Document 01's worked examples on plain numbers, "Houses worked through", and after them numbers for what its examples leave open: each
+-- definition has a number that another definition would change.
+use mathlib.Core.List.{List, [], _∷_}
+use Prim.Native.Nat.{ℕ}
+use Rattle.method.specs.Held.{jointFactor, wallShare}
+use Rattle.method.specs.Required.{constant, narrowFactor, requiredStrength}
+use Rattle.method.specs.LayoutFactor.{band, floorType, layoutFactor}
+use Rattle.method.specs.Deterioration.{itemPoints, itemPointsUnderTen, points, fraction, deteriorationFactor}
+use Rattle.method.specs.Score.{score, scoreBeforeLayout, cappedScore, verdict}
+
+-- P1 to P11, and 000's own worked joint factor (its section 4.2); then the further numbers.
+abbrev pub worked : List ℕ
+worked =
+    requiredStrength 1 1 2 4000 100 1 100  -- P1: one storey, heavy, 40 m², zone 100, ordinary ground, not narrow
+    ∷ score 9_200_000 16_000_000_000 100 (fraction 20 24)  -- its score in X, where 9.2 kN are held
+    ∷ score 16_000_000 16_000_000_000 100 (fraction 20 24)  -- and in Y, where 16 kN are
+    ∷ jointFactor 2 2 1 4 31  -- P2: upper storey of two, joint 4, strength 31: its factor
+    ∷ wallShare 2 2 1 1 4 31 4550  -- and of 4,550 mm
+    ∷ jointFactor 2 1 2 4 22  -- P3: ground storey of two, foundation 2, joint 4, strength 22
+    ∷ wallShare 2 1 2 1 4 22 1820
+    ∷ jointFactor 2 1 2 4 31  -- P4: strength 31
+    ∷ wallShare 2 1 2 1 4 31 3640
+    ∷ wallShare 1 1 1 1 1 101 1000  -- P5: strength 101 counts as 100
+    ∷ wallShare 1 1 1 1 1 100 1000
+    ∷ wallShare 1 1 1 2 0 0 3001  -- P6: a window of 3,001 mm
+    ∷ deteriorationFactor 8191 8 2 .upper  -- P7: all present, marks worth 4 (item 4)
+    ∷ deteriorationFactor 8191 8 2 .lower
+    ∷ deteriorationFactor 8191 41 2 .upper  -- worth 7 (items 1, 4, 6)
+    ∷ deteriorationFactor 8191 41 2 .lower
+    ∷ deteriorationFactor 8191 11 2 .upper  -- worth 8 (items 1, 2, 4)
+    ∷ deteriorationFactor 8191 11 2 .lower
+    ∷ deteriorationFactor 8191 2048 1 .upper  -- P8: under ten, corridor (item 12) alone marked
+    ∷ deteriorationFactor 8191 2048 1 .lower
+    ∷ band 33 100_000  -- P9: sufficiency exactly 0.33 is B
+    ∷ band 100 100_000  -- exactly 1.00 is D
+    ∷ requiredStrength 1 1 2 4000 90 1 100  -- P10: at zone 90
+    ∷ band 1_080_000 (requiredStrength 1 1 2 1000 90 1 100)  -- the end with the wall of 540 mm
+    ∷ band 1_260_000 (requiredStrength 1 1 2 1000 90 1 100)  -- and that with the wall of 630 mm
+    ∷ scoreBeforeLayout 2_340_000 14_400_000_000 (fraction 1 1)
+    ∷ score 2_340_000 14_400_000_000 (layoutFactor 0 1 1) (fraction 1 1)
+    ∷ band 1_260_000 (requiredStrength 1 1 2 1000 100 1 100)  -- at zone 100: "the better end falls from B to A"
+    ∷ scoreBeforeLayout 2_340_000 16_000_000_000 (fraction 1 1)
+    ∷ score 2_340_000 16_000_000_000 (layoutFactor 0 0 1) (fraction 1 1)
+    ∷ verdict 69  -- P11
+    ∷ verdict 70
+    ∷ verdict 99
+    ∷ verdict 100
+    ∷ verdict 149
+    ∷ verdict 150
+    ∷ jointFactor 2 1 2 2 40  -- 000: strength 4.0, joint II, foundation II, ground storey of two
+    ∷ constant 1 1 1  -- "one storey 28, 40"
+    ∷ constant 1 1 2
+    ∷ constant 2 1 1  -- "two storeys, ground 83, 106"
+    ∷ constant 2 1 2
+    ∷ constant 2 2 1  -- "upper 37, 53"
+    ∷ constant 2 2 2
+    ∷ constant 3 1 3  -- three storeys, very heavy, from the ground up
+    ∷ constant 3 2 3
+    ∷ constant 3 3 3
+    ∷ narrowFactor 2 1 3999  -- "Run: .. short side 3,999 and 4,000"
+    ∷ narrowFactor 2 1 4000
+    ∷ narrowFactor 2 2 3999  -- the upper storey
+    ∷ narrowFactor 1 1 3999  -- one storey
+    ∷ requiredStrength 2 1 2 4000 100 2 113  -- narrow ground storey of two, heavy, 40 m², zone 100, on very soft ground
+    ∷ band 32 100_000  -- a hundredth under each limit, and the limits that P9 leaves out
+    ∷ band 65 100_000
+    ∷ band 66 100_000
+    ∷ band 99 100_000
+    ∷ band 132 100_000
+    ∷ band 133 100_000
+    ∷ floorType 1 0  -- no void
+    ∷ floorType 1 1  -- "A void makes floor type 1 into 2 and 2 into 3"
+    ∷ floorType 2 1
+    ∷ floorType 3 1
+    ∷ layoutFactor 0 0 2  -- AA, BB, BC, CC, CD, CE: 100/90/80
+    ∷ layoutFactor 1 0 2  -- AB: 70/65/60
+    ∷ layoutFactor 0 2 3  -- AC: 65/60/55
+    ∷ layoutFactor 3 0 3  -- AD: 60/55/50
+    ∷ layoutFactor 0 4 3  -- AE: 55/50/45
+    ∷ layoutFactor 1 3 1  -- BD: 75/70/60
+    ∷ layoutFactor 4 1 3  -- BE: 70/65/55
+    ∷ layoutFactor 3 4 3  -- DD, DE, EE: 100/100/100
+    ∷ points itemPoints 8191  -- all items
+    ∷ points itemPointsUnderTen 8191
+    ∷ deteriorationFactor 8191 2056 1 .upper  -- under ten, corridor and outer wall (items 4, 12) marked: worth 5
+    ∷ deteriorationFactor 8191 2056 1 .lower
+    ∷ scoreBeforeLayout 16_000_000 16_000_000_000 (fraction 1 1)  -- as much held as required
+    ∷ score 16_000_000 100_000_000 100 (fraction 1 1)  -- "at most 999"
+    ∷ band 120_000_000_000 60_000_000_000_000  -- 120,000 kN held, 60,000 kN required: E
+    ∷ score 120_000_000_000 60_000_000_000_000 100 (fraction 1 1)
+    ∷ cappedScore 120_000_000_000 60_000_000_000_000 100 (fraction 1 1)  -- computed with 60,000 kN held
+    ∷ score 60_000_000_000 120_000_000_000_000 100 (fraction 1 1)  -- 60,000 kN held, 120,000 kN required
+    ∷ cappedScore 60_000_000_000 120_000_000_000_000 100 (fraction 1 1)  -- computed with 60,000 kN required
+    ∷ []
+
+abbrev pub expected : List ℕ
+expected =
+    16_000_000_000  -- P1
+    ∷ 47
+    ∷ 83
+    ∷ 35  -- P2
+    ∷ 4_936_750
+    ∷ 96  -- P3
+    ∷ 3_843_840
+    ∷ 80  -- P4
+    ∷ 9_027_200
+    ∷ 10_000_000  -- P5
+    ∷ 10_000_000
+    ∷ 1_800_000  -- P6
+    ∷ 20  -- P7: 20/24
+    ∷ 24
+    ∷ 17  -- 17/24
+    ∷ 24
+    ∷ 7  -- 7/10
+    ∷ 10
+    ∷ 1  -- P8: 1
+    ∷ 1
+    ∷ 1  -- P9: B
+    ∷ 3  -- D
+    ∷ 14_400_000_000  -- P10, at zone 90
+    ∷ 0  -- A
+    ∷ 1  -- B
+    ∷ 16
+    ∷ 11
+    ∷ 0  -- at zone 100: A
+    ∷ 14
+    ∷ 14
+    ∷ 4  -- P11
+    ∷ 3
+    ∷ 3
+    ∷ 2
+    ∷ 2
+    ∷ 1
+    ∷ 85  -- 000: 0.85
+    ∷ 28  -- constants
+    ∷ 40
+    ∷ 83
+    ∷ 106
+    ∷ 37
+    ∷ 53
+    ∷ 207
+    ∷ 159
+    ∷ 91
+    ∷ 113  -- narrow factors
+    ∷ 100
+    ∷ 100
+    ∷ 100
+    ∷ 71_868_000_000
+    ∷ 0  -- bands
+    ∷ 1
+    ∷ 2
+    ∷ 2
+    ∷ 3
+    ∷ 4
+    ∷ 1  -- floor types
+    ∷ 2
+    ∷ 3
+    ∷ 3
+    ∷ 90  -- layout factors
+    ∷ 65
+    ∷ 55
+    ∷ 50
+    ∷ 45
+    ∷ 75
+    ∷ 55
+    ∷ 100
+    ∷ 24  -- points
+    ∷ 20
+    ∷ 19  -- 19/24
+    ∷ 24
+    ∷ 100  -- scores
+    ∷ 999
+    ∷ 4  -- above 60,000 kN
+    ∷ 200
+    ∷ 100
+    ∷ 50
+    ∷ 100
+    ∷ []
