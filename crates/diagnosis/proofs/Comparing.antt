@@ -2,25 +2,23 @@
 use mathlib.Core.Path.{_≡_, refl, sym, ap, fun-ext, _∙_}
 use mathlib.Core.Bool.{false, and-false}
 use mathlib.Core.List.{List}
-use Prim.Native.Nat.{ℕ, zero, suc, _+_, _-_, _*_, _/_, _%_, _<_, _≤_}
+use Prim.Native.Nat.{ℕ, _+_, _-_, _*_, _/_, _%_, _<_, _≤_}
 use native.Mathlib.Nat.{le-refl, le-of-eq}
 use native.Mathlib.Omega.{arith}
 use lib.Dec.{eqb}
 use lib.Bits.{bitAnd}
 use lib.ListN.{getD}
 use borrow.Author.Tests.{ne-eqb, eqb-true}
-use Rattle.survey.specs.Table.{cell, storeys, endsRow, endsStorey, partsRow}
-use Rattle.survey.specs.Ranges.{endsColumns}
+use Rattle.survey.specs.Table.{cell, storeys, endsRow, partsRow}
 use Rattle.survey.specs.Judgement.{within}
 use Rattle.survey.specs.Walls.{storeyWalls}
-use Rattle.survey.specs.Acceptance.{Accepted, Inside}
+use Rattle.survey.specs.Acceptance.{Accepted}
 use Rattle.survey.proofs.Acceptance.{accepted, accepted-zone}
-use Rattle.survey.proofs.Positions.{ends-storey}
 use Rattle.survey.proofs.AlikeTables.{parts-row-alike, walls-alike}
 use Rattle.method.specs.Required.{narrowFactor}
+use Rattle.method.specs.Deterioration.{_at-most_}
 use Rattle.method.proofs.Requirements.{narrow-least, required-rises, required-positive}
-use Rattle.method.proofs.Bands.{floor-most}
-use Rattle.method.proofs.Fractions.{_at-most_, deterioration-falls}
+use Rattle.method.proofs.Fractions.{deterioration-falls}
 use Rattle.method.proofs.Comparisons.{score-before-falls, full-score-falls, verdict-rises}
 use Rattle.diagnosis.specs.House.{ground, foundation, present, marked, endA, endB, share, heldWhere, held, endHeld, requiredOf, required, endRequired, endBand, higherBand, storeyFloorType, layout, deterioration, scoreBefore, fullScore, scores, leastScore, houseVerdict}
 use Rattle.diagnosis.specs.Answers.{recordOf}
@@ -104,24 +102,20 @@ module _ (A B : List ℕ) (w : Worse A B) where
     unfolding storeyFloorType
     floor-same = rw (storey-same 4 (omega arith), storey-same 5 (omega arith))
 
-    floor-known : storeyFloorType A storey ≤ 3
-    unfolding storeyFloorType
-    floor-known = floor-most (cell A storey 5) (a .storey-inside storey (s .some-storey) (s .last-storey) 4 (omega arith) .1)
-
     narrow-same : narrowFactor (storeys A) storey (cell A storey 3) ≡ narrowFactor (storeys B) storey (cell B storey 3)
     narrow-same = rw (storeys-same, storey-same 3 (omega arith))
 
     -- What is required of a part of the storey is no less.
-    required-of-rises : (parts area : ℕ) → storey ≤ parts → parts ≤ 3 → requiredOf A storey parts area ≤ requiredOf B storey parts area
+    required-of-rises : (parts area : ℕ) → requiredOf A storey parts area ≤ requiredOf B storey parts area
     unfolding requiredOf
-    required-of-rises parts area most few =
-        required-rises (s .some-storey) most few (a .house-inside 2 (omega arith) .0) (omega (arith, w .no-lower .heavier)) (b .house-inside 2 (omega arith) .1)
+    required-of-rises parts area =
+        required-rises parts storey (omega (arith, w .no-lower .heavier)) (b .house-inside 2 (omega arith) .1)
         (le-refl area) (omega (arith, w .no-lower .higher)) (omega (arith, w .no-lower .softer)) (le-of-eq narrow-same)
 
     storey-required : required A storey ≤ required B storey
     unfolding required
     storey-required =
-        rw (← storeys-same, ← storey-same 2 (omega arith)) (required-of-rises (storeys A) (cell A storey 2) (s .last-storey) (storeys-few A (w .A-accepted) .1))
+        rw (← storeys-same, ← storey-same 2 (omega arith)) (required-of-rises (storeys A) (cell A storey 2))
 
     required-some : 0 < required A storey
     unfolding required requiredOf
@@ -137,38 +131,18 @@ module _ (A B : List ℕ) (w : Worse A B) where
     ends-same column inside =
         row-same (endsRow A storey direction) column (λ e. omega arith) (λ e. omega arith) inside ∙ rw storeys-same
 
-    part-storeys : (end : ℕ) → end < 2
-        → (storey ≤ cell A (endsRow A storey direction) (5 + end)) × (cell A (endsRow A storey direction) (5 + end) ≤ storeys A)
-    part-storeys end inside = go end inside
-      where
-        row : ℕ
-        row = endsRow A storey direction
-
-        ends : Inside (endsColumns A row) A row
-        ends = a .ends-inside row (omega arith) (omega arith)
-
-        due : endsStorey A row ≡ storey
-        due = ends-storey A storey direction (s .some-storey) (s .some-direction) (s .last-direction)
-
-        go : (end : ℕ) → end < 2 → (storey ≤ cell A row (5 + end)) × (cell A row (5 + end) ≤ storeys A)
-        go zero l = (omega (arith, ends 5 (omega arith), due), omega (arith, ends 5 (omega arith)))
-        go (suc zero) l = (omega (arith, ends 6 (omega arith), due), omega (arith, ends 6 (omega arith)))
-        go (suc (suc n)) l = absurd (omega arith)
-
     end-required : (end : ℕ) → end < 2 → endRequired A storey direction end ≤ endRequired B storey direction end
     unfolding endRequired
     end-required end inside =
-        let known = part-storeys end inside in
         let row = endsRow A storey direction in
         rw (← ends-same (5 + end) (omega arith), ← ends-same (3 + end) (omega arith))
-        (required-of-rises (cell A row (5 + end)) (cell A row (3 + end)) (known .0) (omega (arith, known, storeys-few A (w .A-accepted))))
+        (required-of-rises (cell A row (5 + end)) (cell A row (3 + end)))
 
     -- The score before the layout factor is no higher.
     before-falls : scoreBefore B storey direction ≤ scoreBefore A storey direction
     unfolding scoreBefore
     before-falls =
-        score-before-falls (deterioration A) (deterioration B) (le-of-eq (sym (held-same storey direction))) storey-required worn required-some
-        (lower-some A) (lower-some B)
+        score-before-falls (deterioration A) (deterioration B) (le-of-eq (sym (held-same storey direction))) storey-required worn required-some (lower-some A)
 
     -- Nor is the full score, where the higher band is kept.
     full-falls : Kept A B storey direction → fullScore B storey direction ≤ fullScore A storey direction
@@ -177,10 +151,9 @@ module _ (A B : List ℕ) (w : Worse A B) where
         let one = end-held-same storey direction endA in
         let other = end-held-same storey direction endB in
         rw (← held-same storey direction, ← one, ← other, ← floor-same)
-        (full-score-falls (held A storey direction) (endHeld A storey direction endA) (endHeld A storey direction endB)
-        (deterioration A) (deterioration B) storey-required (end-required endA (omega arith)) (end-required endB (omega arith)) floor-known worn
-        (rw (← one, ← other) at kept) required-some
-        (lower-some A) (lower-some B))
+        (full-score-falls (held A storey direction) (endHeld A storey direction endA) (endHeld A storey direction endB) (storeyFloorType A storey)
+        (deterioration A) (deterioration B) storey-required (end-required endA (omega arith)) (end-required endB (omega arith)) worn
+        (rw (← one, ← other) at kept) required-some (lower-some A))
 
   in-both : {storey direction : ℕ} → InHouse A storey direction → InHouse B storey direction
   in-both s = record {

@@ -23,7 +23,8 @@ use Rattle.method.specs.Required.{topLine, constant, groundFactor, narrowFactor
 use Rattle.method.specs.LayoutFactor.{reached, band, floorType, layoutFactor}
 use Rattle.method.specs.Deterioration.{points, countedMarks, factorOf, deteriorationFactor}
 use Rattle.method.specs.Score.{score, verdict}
-use Rattle.method.proofs.Examples.{worked, expected, worked-out}
+use Rattle.method.specs.Worked.{worked, expected}
+use Rattle.method.proofs.Examples.{worked-out}
 use Rattle.diagnosis.specs.House.{share, sharesWhere, heldWhere, inDirection, solidAtEnd, held, endHeld, requiredOf, required, endRequired, endBand, higherBand, storeyFloorType, layout, deterioration, scoreBefore, fullScore, scores, leastOf, leastScore, houseVerdict}
 use Rattle.diagnosis.specs.Answers.{recordOf}
 use Rattle.diagnosis.specs.Comparison.{scoreAt}

@@ -11,17 +11,13 @@ use lib.Dec.{eqb}
 use borrow.Author.Tests.{eqb-true}
 use Rattle.answer.specs.Told.{Told, counted}
 use Rattle.answer.specs.First.{first}
-use Rattle.answer.specs.Houses.{twoStoreys}
-use Rattle.survey.specs.Table.{cell, storeys, wallRows}
+use Rattle.survey.specs.Table.{cell, wallRows}
 use Rattle.survey.specs.Judgement.{within, judging}
-use Rattle.survey.specs.Walls.{rowsFrom, storeyWalls}
 use Rattle.survey.proofs.Positions.{beyond}
 use Rattle.method.proofs.Tables.{everyBelow, at-every}
-use Rattle.diagnosis.specs.House.{marked, higherBand, fullScore, scores, houseVerdict}
-use Rattle.diagnosis.specs.Answers.{recordOf}
-use Rattle.diagnosis.specs.Comparison.{mayDiffer, NoLower, Worse, InHouse, Kept, scoreAt, Applies}
+use Rattle.diagnosis.specs.House.{marked, fullScore}
+use Rattle.diagnosis.specs.Comparison.{mayDiffer, NoLower, Worse, InHouse, Kept, Applies}
 use Rattle.diagnosis.specs.Worked.{p10, sound, heavy, zone100, softGround, overTen, moreMarks, allWorse, figures, sameBands}
-use Rattle.diagnosis.proofs.Comparing.{comparison}
 use Rattle.diagnosis.proofs.Examples.{zones-known, p10-judged, p10-rises, two-judged, worsened-figures}
 
 -- Whether the first rows of two tables, so many, hold equal numbers wherever they may not differ.

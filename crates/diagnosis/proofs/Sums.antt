@@ -2,7 +2,7 @@
 use mathlib.Core.Path.{_≡_, refl, ap, _∙_}
 use mathlib.Core.Bool.{Bool, true, false, cond}
 use mathlib.Core.List.{List, [], _∷_, _++_, append-nil}
-use Prim.Native.Nat.{ℕ, zero, suc, _+_, _*_, _/_, _<_, _≤_}
+use Prim.Native.Nat.{ℕ, zero, suc, _+_, _/_, _<_, _≤_}
 use native.Mathlib.Nat.{add-zero, le-refl}
 use native.Mathlib.Numerals.{add-one}
 use native.Mathlib.Omega.{arith}
@@ -127,14 +127,9 @@ module _ (table : List ℕ) (h : judging table .number ≡ 0) (storey : ℕ) {wa
       → (cell walls row 5 ≤ 20000) × ((sums .all ≤ mostHeld) × (sums .a ≤ mostHeld) × (sums .b ≤ mostHeld))
   wall-ready direction row inside e = (walls-short row inside, sums-within direction row (omega arith) e)
 
-module _ (table : List ℕ) (h : judging table .number ≡ 0) (storey direction : ℕ) where
-  pub storey-held-most : held table storey direction ≤ mostHeld
-  unfolding held
-  storey-held-most = held-within table h storey refl _ _ (le-refl _)
-
-  pub end-held-most : (end : ℕ) → endHeld table storey direction end ≤ mostHeld
-  unfolding endHeld
-  end-held-most end = held-within table h storey refl _ _ (le-refl _)
+pub storey-held-most : (table : List ℕ) → judging table .number ≡ 0 → (storey direction : ℕ) → held table storey direction ≤ mostHeld
+unfolding held
+storey-held-most table h storey direction = held-within table h storey refl _ _ (le-refl _)
 
 -- The sums over all walls of a storey are what it holds.
 pub sums-whole : (table : List ℕ) (storey : ℕ) {walls : List ℕ} (direction : ℕ) {sums : Held}

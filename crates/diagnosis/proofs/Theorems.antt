@@ -12,7 +12,7 @@ use Rattle.answer.specs.Told.{told, counted, lent-space-short}
 use Rattle.answer.specs.Houses.{p1Sheet}
 use Rattle.sheet.specs.Sheet.{over, writing, afterWriting}
 use Rattle.survey.specs.Judgement.{judging}
-use Rattle.method.proofs.Examples.{worked, expected}
+use Rattle.method.specs.Worked.{worked, expected}
 use Rattle.diagnosis.specs.House.{higherBand, scoreBefore, fullScore, leastScore}
 use Rattle.diagnosis.specs.Answers.{recordOf, scoring}
 use Rattle.diagnosis.specs.Report.{reportRows, reportLines, reportBytes}

@@ -4,7 +4,7 @@
 use mathlib.Core.Path.{_≡_, refl, ap}
 use mathlib.Core.List.{[], _∷_, _++_}
 use native.Mathlib.Omega.{arith}
-use lib.ListN.{length, replicate}
+use lib.ListN.{replicate}
 use Rattle.answer.specs.Houses.{p1, p1Sheet}
 use Rattle.answer.specs.Told.{Told, counted, refusal}
 use Rattle.answer.specs.First.{first}

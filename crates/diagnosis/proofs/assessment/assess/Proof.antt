@@ -50,7 +50,7 @@ returns c =
       at-required .storey-required .ensures,
       laid-out (c .before),
       start .pre .1 .1 .0,
-      score-is _ (start .pre .0) _ _ (stands .0 .0) (stands .0 .1) (stands .1 .0) (stands .1 .1),
+      score-is _ (start .pre .0) _ _ (stands .0 .0) (stands .0 .1),
     )
 
 pub assess-spec : {M : Type 1} → statement M

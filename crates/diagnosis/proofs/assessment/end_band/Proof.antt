@@ -1,12 +1,9 @@
 -- `diagnosis::assessment::end_band` meets its contract. Assumes nothing.
 use mathlib.Core.Path.{_≡_, _∙_}
-use Prim.Native.Nat.{_+_, _-_, _*_, _≤_}
-use native.Mathlib.Omega.{arith}
+use Prim.Native.Nat.{_-_}
 use denote.Ref.{now}
-use lib.ListN.{length}
 use borrow.Author.Needs.{needs}
-use Rattle.diagnosis.specs.House.{endRequired}
-use Rattle.diagnosis.proofs.Assessments.{band-is}
+use Rattle.diagnosis.specs.House.{endRequired, endBand}
 use Rattle.diagnosis.proofs.assessment.end_band.Statement.{statement}
 use Rattle.diagnosis.proofs.assessment.end_band.Tie as tie
 
@@ -60,11 +57,10 @@ needs-end c =
     rw (← at-1 .cell .ensures, ← c .before .before .cell2 .ensures, ← c .before .cell3 .ensures) (c .required-of .ensures)
 
 returns : tie.Need-returns
+unfolding endBand
 returns c =
     let start = c .before .before .before .before .before .before in
-    let ends = start .pre .1 .1 .0 in
     c .band .ensures ∙ rw (start .pre .1 .1 .1, needs-end (c .before))
-    (band-is _ (start .pre .0) _ _ (start .pre .1 .0 .0) (start .pre .1 .0 .1) (ends .0) (ends .1) _ (ends .2))
 
 pub end-band-spec : {M : Type 1} → statement M
 end-band-spec =

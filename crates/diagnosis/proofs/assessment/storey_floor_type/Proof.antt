@@ -1,5 +1,4 @@
 -- `diagnosis::assessment::storey_floor_type` meets its contract. Assumes nothing.
-use native.Mathlib.Omega.{arith}
 use borrow.Author.Needs.{needs}
 use Rattle.diagnosis.specs.House.{storeyFloorType}
 use Rattle.diagnosis.proofs.assessment.storey_floor_type.Statement.{statement}

@@ -1,5 +1,4 @@
 -- `diagnosis::assessment::storey_required` meets its contract. Assumes nothing.
-use native.Mathlib.Omega.{arith}
 use borrow.Author.Needs.{needs}
 use Rattle.diagnosis.specs.House.{required}
 use Rattle.diagnosis.proofs.assessment.storey_required.Statement.{statement}
