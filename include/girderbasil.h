@@ -41,12 +41,14 @@ enum {
     GIRDERBASIL_MOST_REPORT_BYTES = 7 * GIRDERBASIL_LINE
 };
 
+/* Every answer begins with the same three fields: a refusal's number, its row and its column. */
+
 /* A count or a refusal. */
 typedef struct {
-    uint32_t count;  /* rows read or bytes written; 0 where refused */
     uint32_t number; /* 0 where accepted, else the refusal's number */
     uint32_t row;    /* the refusal's place, counted from 1; 0 where it has none */
     uint32_t column;
+    uint32_t count; /* rows read or bytes written; 0 where refused */
 } girderbasil_answer;
 
 /* A record or a refusal. */

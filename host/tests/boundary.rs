@@ -138,15 +138,15 @@ fn number_of<T>(answer: &Result<T, Refusal>) -> usize {
 }
 
 fn raw_answer(answer: Result<usize, Refusal>) -> raw::Answer {
-    let (count, number, row, column) = match answer {
-        Ok(count) => (count as u32, 0, 0, 0),
-        Err(refusal) => (0, refusal.number, refusal.row, refusal.column),
+    let (number, row, column, count) = match answer {
+        Ok(count) => (0, 0, 0, count as u32),
+        Err(refusal) => (refusal.number, refusal.row, refusal.column, 0),
     };
     raw::Answer {
-        count,
         number,
         row,
         column,
+        count,
     }
 }
 
