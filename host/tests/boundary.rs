@@ -341,6 +341,13 @@ fn worked_houses_are_printed_as_the_papers_have_them() {
     assert_eq!(in_x, [Ok(11), Ok(14)]);
 }
 
+#[test]
+fn refused_sheets_are_told_with_row_before_column() {
+    for (sheet, line) in worked::refused() {
+        assert_eq!(String::from_utf8_lossy(&library::diagnose(&sheet)), line);
+    }
+}
+
 /// An empty slice of Rust has a pointer that isn't null; one of C may be null.
 #[test]
 fn nothing_lent_may_be_null() {

@@ -2,9 +2,9 @@
 
 mod common;
 
-use std::fs;
+use std::fs::{self, File};
 use std::path::{Path, PathBuf};
-use std::process::{Command, Output};
+use std::process::{Command, Output, Stdio};
 
 use girderbasil_host::random::Random;
 use girderbasil_host::{LINE, MOST_ROWS, model, worked};
@@ -67,6 +67,32 @@ fn the_example_sheets() {
     let output = run(&program, &common::top().join("examples/p1.sheet"));
     assert_eq!(output.stdout, worked::REPORT.as_bytes());
     assert_eq!(output.status.code(), Some(0));
+}
+
+#[test]
+fn refused_sheets_are_told_with_row_before_column() {
+    let folder = common::folder("refused");
+    let program = compiled(&folder);
+    for (sheet, line) in worked::refused() {
+        let file = folder.join("refused.sheet");
+        fs::write(&file, sheet).expect("the sheet is written");
+        let output = run(&program, &file);
+        assert_eq!(String::from_utf8_lossy(&output.stdout), line);
+        assert_eq!(output.status.code(), Some(1));
+    }
+}
+
+#[test]
+fn a_report_that_cannot_be_printed() {
+    let program = compiled(&common::folder("unprintable"));
+    let full = File::options().write(true).open("/dev/full");
+    let status = Command::new(program)
+        .arg(common::top().join("examples/p1.sheet"))
+        .stdout(full.expect("a device that is always full"))
+        .stderr(Stdio::null())
+        .status()
+        .expect("it runs");
+    assert_eq!(status.code(), Some(3));
 }
 
 #[test]
