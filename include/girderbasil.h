@@ -41,12 +41,14 @@ enum {
     GIRDERBASIL_MOST_REPORT_BYTES = 7 * GIRDERBASIL_LINE
 };
 
+/* Every answer begins with the same three fields: a refusal's number, its row and its column. */
+
 /* A count or a refusal. */
 typedef struct {
-    uint32_t count;  /* rows read or bytes written; 0 where refused */
     uint32_t number; /* 0 where accepted, else the refusal's number */
     uint32_t row;    /* the refusal's place, counted from 1; 0 where it has none */
     uint32_t column;
+    uint32_t count; /* rows read or bytes written; 0 where refused */
 } girderbasil_answer;
 
 /* A record or a refusal. */
@@ -58,6 +60,30 @@ typedef struct {
     uint32_t count;     /* how many scores there are: two a storey */
     uint32_t verdict;   /* 1 to 4 */
 } girderbasil_scoring;
+
+/* The structs as the library has them. A compiler of C11 or C++11 refuses this header where its own differ. */
+#if defined(__cplusplus)
+#if __cplusplus >= 201103L
+#define girderbasil_assert(fact) static_assert(fact, #fact)
+#endif
+#elif defined(__STDC_VERSION__) && __STDC_VERSION__ >= 201112L
+#define girderbasil_assert(fact) _Static_assert(fact, #fact)
+#endif
+#ifdef girderbasil_assert
+girderbasil_assert(sizeof(girderbasil_answer) == 16);
+girderbasil_assert(offsetof(girderbasil_answer, number) == 0);
+girderbasil_assert(offsetof(girderbasil_answer, row) == 4);
+girderbasil_assert(offsetof(girderbasil_answer, column) == 8);
+girderbasil_assert(offsetof(girderbasil_answer, count) == 12);
+girderbasil_assert(sizeof(girderbasil_scoring) == 44);
+girderbasil_assert(offsetof(girderbasil_scoring, number) == 0);
+girderbasil_assert(offsetof(girderbasil_scoring, row) == 4);
+girderbasil_assert(offsetof(girderbasil_scoring, column) == 8);
+girderbasil_assert(offsetof(girderbasil_scoring, scores) == 12);
+girderbasil_assert(offsetof(girderbasil_scoring, count) == 36);
+girderbasil_assert(offsetof(girderbasil_scoring, verdict) == 40);
+#undef girderbasil_assert
+#endif
 
 /* Reads a sheet into a lent table, eight numbers a line.
  *

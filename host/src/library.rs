@@ -12,10 +12,10 @@ pub mod raw {
     #[repr(C)]
     #[derive(Debug, Clone, Copy, PartialEq, Eq)]
     pub struct Answer {
-        pub count: u32,
         pub number: u32,
         pub row: u32,
         pub column: u32,
+        pub count: u32,
     }
 
     /// `girderbasil_scoring`: a record or a refusal.

@@ -1,4 +1,6 @@
-//! Houses worked through in the papers: document 01's P1 and P10, and the manual's.
+//! Houses worked through in the papers: document 01's P1 and P10, and the manual's; and two sheets that are refused.
+
+use crate::{FIELD, LINE};
 
 /// P1's table; the other worked houses of document 01 are changes of it.
 #[rustfmt::skip]
@@ -25,6 +27,23 @@ pub const REPORT: &str = concat!(
     "       6       1       2    1600    1600     100      83      83\n",
     "       7       4      47       0       0       0       0       0\n",
 );
+
+/// Sheets that are refused, each with the line that tells it: one by the reader, P1 with a leading zero in row 5,
+/// column 6; and one by scoring, the repository's example, whose ends in row 3 exceed their storey.
+pub fn refused() -> [(Vec<u8>, &'static str); 2] {
+    let mut misprinted = SHEET.to_vec();
+    misprinted[4 * LINE + 5 * FIELD..][..FIELD].copy_from_slice(b"   02000");
+    [
+        (
+            misprinted,
+            "       0       2       5       6       0       0       0       0\n",
+        ),
+        (
+            include_bytes!("../../examples/refused.sheet").to_vec(),
+            "       0       6       3       4       0       0       0       0\n",
+        ),
+    ]
+}
 
 /// P10's table: no marks, and in X only end walls of 540 and 630 mm. Its score in X is 11 at zone 90, 14 at 100.
 #[rustfmt::skip]

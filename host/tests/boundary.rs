@@ -138,15 +138,15 @@ fn number_of<T>(answer: &Result<T, Refusal>) -> usize {
 }
 
 fn raw_answer(answer: Result<usize, Refusal>) -> raw::Answer {
-    let (count, number, row, column) = match answer {
-        Ok(count) => (count as u32, 0, 0, 0),
-        Err(refusal) => (0, refusal.number, refusal.row, refusal.column),
+    let (number, row, column, count) = match answer {
+        Ok(count) => (0, 0, 0, count as u32),
+        Err(refusal) => (refusal.number, refusal.row, refusal.column, 0),
     };
     raw::Answer {
-        count,
         number,
         row,
         column,
+        count,
     }
 }
 
@@ -339,6 +339,13 @@ fn worked_houses_are_printed_as_the_papers_have_them() {
     let in_x = [90, 100]
         .map(|zone| library::score(&worked::better_end_falls(zone)).map(|it| it.scores[0]));
     assert_eq!(in_x, [Ok(11), Ok(14)]);
+}
+
+#[test]
+fn refused_sheets_are_told_with_row_before_column() {
+    for (sheet, line) in worked::refused() {
+        assert_eq!(String::from_utf8_lossy(&library::diagnose(&sheet)), line);
+    }
 }
 
 /// An empty slice of Rust has a pointer that isn't null; one of C may be null.

@@ -2,39 +2,17 @@
 
 mod common;
 
-use std::fs;
+use std::fs::{self, File};
 use std::path::{Path, PathBuf};
-use std::process::{Command, Output};
+use std::process::{Command, Output, Stdio};
 
 use girderbasil_host::random::Random;
 use girderbasil_host::{LINE, MOST_ROWS, model, worked};
 
 const SHEETS: usize = 80;
 
-/// A folder of a test's own.
-fn folder(name: &str) -> PathBuf {
-    let folder = Path::new(env!("CARGO_TARGET_TMPDIR")).join(name);
-    fs::create_dir_all(&folder).expect("a folder for the test");
-    folder
-}
-
 fn compiled(folder: &Path) -> PathBuf {
-    let program = folder.join("score");
-    let output = Command::new("cc")
-        .args(["-std=c99", "-Wall", "-Wextra", "-Werror", "-pedantic", "-I"])
-        .arg(common::top().join("include"))
-        .arg(common::top().join("examples/score.c"))
-        .arg(env!("GIRDERBASIL_ARCHIVE"))
-        .arg("-o")
-        .arg(&program)
-        .output()
-        .expect("`cc` runs");
-    let complaints = String::from_utf8_lossy(&output.stderr);
-    assert!(
-        output.status.success() && complaints.is_empty(),
-        "{complaints}"
-    );
-    program
+    common::compiled("c99", "examples/score.c", folder.join("score"))
 }
 
 fn run(program: &Path, file: &Path) -> Output {
@@ -43,7 +21,7 @@ fn run(program: &Path, file: &Path) -> Output {
 
 #[test]
 fn it_prints_what_the_program_does() {
-    let folder = folder("sheets");
+    let folder = common::folder("sheets");
     let program = compiled(&folder);
     let mut random = Random::new(13);
     let mut sheets: Vec<Vec<u8>> = (0..SHEETS)
@@ -74,7 +52,7 @@ fn it_prints_what_the_program_does() {
 
 #[test]
 fn the_example_sheets() {
-    let program = compiled(&folder("examples"));
+    let program = compiled(&common::folder("examples"));
     let mut met = 0;
     for entry in fs::read_dir(common::top().join("examples")).expect("the examples") {
         let file = entry.expect("an example").path();
@@ -92,31 +70,34 @@ fn the_example_sheets() {
 }
 
 #[test]
-fn the_archive_has_three_functions_and_no_more() {
-    let output = Command::new("nm")
-        .args(["-g", "--defined-only", "-P", env!("GIRDERBASIL_ARCHIVE")])
-        .output()
-        .expect("`nm` runs");
-    let printed = String::from_utf8(output.stdout).expect("it prints text");
-    let mut names: Vec<&str> = printed
-        .lines()
-        .filter(|line| !line.ends_with(':'))
-        .filter_map(|line| line.split_whitespace().next())
-        .collect();
-    names.sort_unstable();
-    assert_eq!(
-        names,
-        [
-            "girderbasil_read",
-            "girderbasil_score",
-            "girderbasil_write_report"
-        ]
-    );
+fn refused_sheets_are_told_with_row_before_column() {
+    let folder = common::folder("refused");
+    let program = compiled(&folder);
+    for (sheet, line) in worked::refused() {
+        let file = folder.join("refused.sheet");
+        fs::write(&file, sheet).expect("the sheet is written");
+        let output = run(&program, &file);
+        assert_eq!(String::from_utf8_lossy(&output.stdout), line);
+        assert_eq!(output.status.code(), Some(1));
+    }
+}
+
+#[test]
+fn a_report_that_cannot_be_printed() {
+    let program = compiled(&common::folder("unprintable"));
+    let full = File::options().write(true).open("/dev/full");
+    let status = Command::new(program)
+        .arg(common::top().join("examples/p1.sheet"))
+        .stdout(full.expect("a device that is always full"))
+        .stderr(Stdio::null())
+        .status()
+        .expect("it runs");
+    assert_eq!(status.code(), Some(3));
 }
 
 #[test]
 fn no_file_to_read() {
-    let folder = folder("unreadable");
+    let folder = common::folder("unreadable");
     let program = compiled(&folder);
     for output in [
         run(&program, &folder.join("absent.sheet")),

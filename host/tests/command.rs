@@ -8,8 +8,11 @@ use std::path::Path;
 use std::process::Command;
 use std::sync::OnceLock;
 
-use girderbasil_host::worked::{REPORT, SHEET, TABLE};
+use girderbasil_host::worked::{self, REPORT, SHEET, TABLE};
 use girderbasil_host::{FIELD, LINE, MOST_WALLS, ROW, model};
+
+/// The line for a sheet of a length that no sheet has.
+const NO_SHEET: &str = "       0       1       0       0       0       0       0       0\n";
 
 /// What a run of the command gave.
 struct Run {
@@ -78,11 +81,12 @@ fn a_sheet_is_scored_from_a_file_and_from_standard_input() {
 
 #[test]
 fn a_refused_sheet_exits_with_1() {
-    let run = diagnose(&[], &SHEET[1..]);
-    assert_eq!(run.status, 1);
-    assert_eq!(words(&run.printed), words("0 1 0 0 0 0 0 0"));
-    assert_eq!(run.printed.len(), LINE);
-    assert_eq!(run.said, "");
+    let shorter = (SHEET[1..].to_vec(), NO_SHEET);
+    for (sheet, line) in worked::refused().into_iter().chain([shorter]) {
+        let run = diagnose(&[], &sheet);
+        assert_eq!((run.status, &*run.printed), (1, line));
+        assert_eq!(run.said, "");
+    }
 }
 
 #[test]
@@ -147,6 +151,7 @@ fn each_verdict_is_explained_in_the_manuals_words() {
         "倒壊する可能性がある",
         "倒壊する可能性が高い",
     ];
+    let document = refusals();
     let mut met = [false; 4];
     for length in [2_000, 4_000, 5_000, 8_000] {
         let table = with_wall_lengths(length);
@@ -154,17 +159,18 @@ fn each_verdict_is_explained_in_the_manuals_words() {
         let sheet = model::write(&table, usize::MAX).expect("the table can be written");
         let run = diagnose(&["--explain"], &sheet);
         let least = record.scores[..2].iter().min().expect("there are scores");
-        let start = format!(
-            "Verdict {}, least score {}.{:02}. ",
+        let verdict = record.verdict as usize - 1;
+        let sentence = format!(
+            "Verdict {}, least score {}.{:02}. {} {}\n",
             record.verdict,
             least / 100,
-            least % 100
+            least % 100,
+            meaning(&document, record.verdict),
+            words[verdict]
         );
-        let verdict = record.verdict as usize - 1;
         assert_eq!(run.status, 0);
         assert_eq!(run.printed.as_bytes(), model::diagnose(&sheet));
-        assert!(run.said.starts_with(&start), "{}", run.said);
-        assert!(run.said.ends_with(&format!(". {}\n", words[verdict])));
+        assert_eq!(run.said, sentence);
         met[verdict] = true;
     }
     assert_eq!(met, [true; 4]);
@@ -172,10 +178,10 @@ fn each_verdict_is_explained_in_the_manuals_words() {
 
 #[test]
 fn the_refusals_of_the_document_are_told_and_explained() {
-    let document = fs::read_to_string(common::top().join("docs/REFUSALS.md")).expect("it is there");
+    let document = refusals();
     let mut numbers = Vec::new();
     for row in document.lines() {
-        let cells: Vec<_> = row.split('|').map(str::trim).collect();
+        let cells = cells(row);
         let [_, number, word, when, example, told, _] = cells[..] else {
             continue;
         };
@@ -189,12 +195,35 @@ fn the_refusals_of_the_document_are_told_and_explained() {
         }
         let run = diagnose(&["--explain"], &example_sheet(number, example));
         assert_eq!(run.status, 1);
-        assert_eq!(words(&run.printed), words(told.trim_matches('`')), "{row}");
-        let start = format!("Refused ({number}, {word}), ");
-        assert!(run.said.starts_with(&start), "{}", run.said);
-        assert!(run.said.ends_with(&format!(" {when}\n")), "{}", run.said);
+        let told = words(told.trim_matches('`'));
+        assert_eq!(words(&run.printed), told, "{row}");
+        let place = match (told[2], told[3]) {
+            ("0", "0") => String::from("the sheet as a whole"),
+            (row, column) => format!("row {row}, column {column}"),
+        };
+        let sentence = format!("Refused ({number}, {word}), {place}. {when}\n");
+        assert_eq!(run.said, sentence);
     }
     assert_eq!(numbers, [1, 2, 3, 4, 5, 6, 7, 8, 9]);
+}
+
+fn refusals() -> String {
+    fs::read_to_string(common::top().join("docs/REFUSALS.md")).expect("it is there")
+}
+
+/// The cells of a table's row, between an empty one at either end.
+fn cells(row: &str) -> Vec<&str> {
+    row.split('|').map(str::trim).collect()
+}
+
+/// What the document says that a verdict means.
+fn meaning(document: &str, verdict: u32) -> &str {
+    let name = format!("verdict {verdict}");
+    document
+        .lines()
+        .map(cells)
+        .find(|cells| cells.get(1) == Some(&name.as_str()))
+        .expect("the document has every verdict")[3]
 }
 
 /// P1's table with all walls of one length.

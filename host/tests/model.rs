@@ -168,6 +168,13 @@ fn the_manuals_house() {
 }
 
 #[test]
+fn refused_sheets_are_told_with_row_before_column() {
+    for (sheet, line) in worked::refused() {
+        assert_eq!(String::from_utf8_lossy(&model::diagnose(&sheet)), line);
+    }
+}
+
+#[test]
 fn no_walls_score_0() {
     let record = model::score(&with_walls(0)).unwrap();
     assert_eq!((record.scores, record.verdict), ([0; 6], 4));

@@ -54,6 +54,13 @@ fn worked_houses() {
 }
 
 #[test]
+fn refused_sheets_are_told_with_row_before_column() {
+    for (sheet, line) in worked::refused() {
+        assert_eq!(String::from_utf8_lossy(&printed(&sheet)), line);
+    }
+}
+
+#[test]
 fn the_longest_sheet_is_scored() {
     let mut random = Random::new(11);
     let table = house::with_walls(&mut random, 3, 300);

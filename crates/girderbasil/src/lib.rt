@@ -17,13 +17,15 @@ ghost use Rattle.diagnosis.specs.Answers.{scoring};
 ghost use Rattle.diagnosis.specs.Report.{reporting, afterReporting};
 ghost use Rattle.girderbasil.specs.Host.{toldHost, toldHostScoring};
 
+// Every answer begins with the same three fields, so that a host reads any refusal in one way.
+
 // A count or a refusal: `number` is 0 where it is a count.
 #[repr(C)]
 pub struct HostAnswer {
-    pub count: u32,
     pub number: u32,
     pub row: u32,
     pub column: u32,
+    pub count: u32,
 }
 
 // A record or a refusal: `number` is 0 where the table is scored, and else the record is all 0.
@@ -43,20 +45,20 @@ fn host_answer(answer: Answer) -> HostAnswer
 {
     match answer {
         Answer::Count(count) => HostAnswer {
-            count,
             number: 0,
             row: 0,
             column: 0,
+            count,
         },
         Answer::Refused {
             number,
             row,
             column,
         } => HostAnswer {
-            count: 0,
             number,
             row,
             column,
+            count: 0,
         },
     }
 }
@@ -65,8 +67,8 @@ fn host_answer(answer: Answer) -> HostAnswer
 // refusal changes none.
 #[no_mangle]
 pub extern "C" fn girderbasil_read(sheet: &[u8], table: &mut [u32]) -> HostAnswer
-    ensures { λ r. ⌜ toldHost r ≡ reading (now (sheet .entry)) (length (now (table .entry))) ⌝ }
-    ensures { λ _. ⌜ now (table .exit) ≡ afterReading (now (sheet .entry)) (now (table .entry)) ⌝ }
+    ensures answer { λ r. ⌜ toldHost r ≡ reading (now (sheet .entry)) (length (now (table .entry))) ⌝ }
+    ensures table { λ _. ⌜ now (table .exit) ≡ afterReading (now (sheet .entry)) (now (table .entry)) ⌝ }
 {
     host_answer(sheet::read(sheet, table))
 }
@@ -108,8 +110,8 @@ pub extern "C" fn girderbasil_score(table: &[u32]) -> HostScoring
 // and a refusal changes none.
 #[no_mangle]
 pub extern "C" fn girderbasil_write_report(table: &[u32], report: &mut [u8]) -> HostAnswer
-    ensures { λ r. ⌜ toldHost r ≡ reporting (now (table .entry)) (length (now (report .entry))) ⌝ }
-    ensures { λ _. ⌜ now (report .exit) ≡ afterReporting (now (table .entry)) (now (report .entry)) ⌝ }
+    ensures answer { λ r. ⌜ toldHost r ≡ reporting (now (table .entry)) (length (now (report .entry))) ⌝ }
+    ensures report { λ _. ⌜ now (report .exit) ≡ afterReporting (now (table .entry)) (now (report .entry)) ⌝ }
 {
     host_answer(diagnosis::report(table, report))
 }

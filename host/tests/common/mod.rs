@@ -1,6 +1,7 @@
 //! Running programs, for the tests that do. Each test uses its own part of this.
 #![allow(dead_code)]
 
+use std::fs;
 use std::io::{ErrorKind, Write};
 use std::path::{Path, PathBuf};
 use std::process::{Command, Output, Stdio};
@@ -14,6 +15,49 @@ pub fn top() -> &'static Path {
     Path::new(env!("CARGO_MANIFEST_DIR"))
         .parent()
         .expect("host/ stands in the repository")
+}
+
+/// A folder of a test's own.
+pub fn folder(name: &str) -> PathBuf {
+    let folder = Path::new(env!("CARGO_TARGET_TMPDIR")).join(name);
+    fs::create_dir_all(&folder).expect("a folder for the test");
+    folder
+}
+
+/// Compiles a program of C, or of C++ where the standard is one of C++, and links it with the archive. Every warning is
+/// an error.
+pub fn compile(standard: &str, include: &Path, source: &Path, program: &Path) -> Output {
+    let (compiler, language) = if standard.starts_with("c++") {
+        ("g++", "c++")
+    } else {
+        ("cc", "c")
+    };
+    Command::new(compiler)
+        .arg(format!("-std={standard}"))
+        .args(["-Wall", "-Wextra", "-Werror", "-pedantic", "-I"])
+        .arg(include)
+        .args(["-x", language])
+        .arg(source)
+        .args(["-x", "none", env!("GIRDERBASIL_ARCHIVE"), "-o"])
+        .arg(program)
+        .output()
+        .unwrap_or_else(|error| panic!("`{compiler}` does not run: {error}"))
+}
+
+/// The same with the repository's own header, of a program that must compile without a word.
+pub fn compiled(standard: &str, source: &str, program: PathBuf) -> PathBuf {
+    let output = compile(
+        standard,
+        &top().join("include"),
+        &top().join(source),
+        &program,
+    );
+    let complaints = String::from_utf8_lossy(&output.stderr);
+    assert!(
+        output.status.success() && complaints.is_empty(),
+        "{source} as {standard}: {complaints}"
+    );
+    program
 }
 
 /// The scoring program. The command builds it where it is missing or older than its source.

@@ -1,6 +1,6 @@
 -- `girderbasil::girderbasil_score` meets its contract: each outcome by itself. Assumes nothing.
 use mathlib.Core.Path.{_∙_}
-use Rattle.girderbasil.proofs.Hosted.{refused-number}
+use Rattle.girderbasil.proofs.Hosted.{refused-crosses}
 use borrow.Author.Needs.{needs}
 use Rattle.girderbasil.proofs.girderbasil_score.Statement.{statement}
 use Rattle.girderbasil.proofs.girderbasil_score.Tie as tie
@@ -25,8 +25,11 @@ returns c = c .host-scoring .ensures ∙ rw (c .before .enum-told .given .1) at 
 
 returns-2 : tie.Need-returns-2
 returns-2 c =
-    let told = refused-number _ (c .before .before .outcome .given .1) (c .before .before .before .before .before .score .ensures) in
-    c .host-scoring2 .ensures ∙ rw (told .1) (told .0)
+    refused-crosses
+    _
+    (c .before .before .outcome .given .1)
+    (c .before .before .before .before .before .score .ensures)
+    (c .host-scoring2 .ensures)
 
 pub girderbasil-score-spec : {M : Type 1} → statement M
 girderbasil-score-spec =
