@@ -84,6 +84,8 @@ worked =
     ∷ points itemPointsUnderTen 8191
     ∷ deteriorationFactor 8191 2056 1 .upper  -- under ten, corridor and outer wall (items 4, 12) marked: worth 5
     ∷ deteriorationFactor 8191 2056 1 .lower
+    ∷ deteriorationFactor 5919 7 2 .upper  -- items 6, 7, 8 and 12 absent, items 1, 2, 3 marked: just 7/10, and not below
+    ∷ deteriorationFactor 5919 7 2 .lower
     ∷ scoreBeforeLayout 16_000_000 16_000_000_000 (fraction 1 1)  -- as much held as required
     ∷ score 16_000_000 100_000_000 100 (fraction 1 1)  -- "at most 999"
     ∷ band 120_000_000_000 60_000_000_000_000  -- 120,000 kN held, 60,000 kN required: E
@@ -168,6 +170,8 @@ expected =
     ∷ 20
     ∷ 19  -- 19/24
     ∷ 24
+    ∷ 14  -- 14/20
+    ∷ 20
     ∷ 100  -- scores
     ∷ 999
     ∷ 4  -- above 60,000 kN
