@@ -1,13 +1,18 @@
--- A refusal of scoring crosses as it is told: its number is not 0. Assumes nothing.
+-- Answers that cross to a host: a refusal of scoring crosses as it is told, its number is not 0; and so does what is printed. Assumes nothing.
 use mathlib.Core.Path.{_≡_, sym, ap, _∙_}
 use mathlib.Core.Bool.{false}
 use mathlib.Core.List.{List}
 use Prim.Native.Nat.{ℕ}
 use lib.Dec.{eqb}
+use lib.ListN.{length}
+use Rattle.answer.specs.Told.{Told}
 use Rattle.diagnosis.specs.declared.scores.Outcome.{Outcome}
 use Rattle.diagnosis.specs.declared.scores.Outcome.the-variants.{Refused}
 use Rattle.diagnosis.specs.declared.scores.Record.{Record}
 use Rattle.diagnosis.specs.Answers.{ToldScoring, toldOutcome, scoring}
+use Rattle.diagnosis.specs.Program.{diagnosing, mostReportBytes, output, outputBytes}
+use Rattle.girderbasil.specs.declared.HostAnswer.{HostAnswer}
+use Rattle.girderbasil.specs.Host.{toldHost, printedFor}
 use Rattle.diagnosis.proofs.ScoreLists.{scored-by-number}
 
 refused-number : (table : List ℕ) {number row column : ℕ} {result : Record} → toldOutcome (Refused number row column) result ≡ scoring table
@@ -22,3 +27,17 @@ pub refused-crosses : (table : List ℕ) {outcome : Outcome} {result : Record} {
 refused-crosses table e told crosses =
     let refused = rw e at told in
     crosses ∙ rw (refused-number table refused) refused
+
+-- What is printed crosses with the refusal that it tells.
+pub output-crosses : (sheet : List ℕ) {answer : Told} (crossed : HostAnswer) {bytes : List ℕ} {count : ℕ}
+    → (answer ≡ diagnosing sheet mostReportBytes) × ((bytes ≡ outputBytes sheet) × (count ≡ length (output sheet))) → toldHost crossed ≡ answer
+    → record { number = crossed .number; row = crossed .row; column = crossed .column; count = count; bytes = bytes } ≡ printedFor sheet
+output-crosses sheet crossed printed told =
+    let tells = told ∙ printed .0 in
+    rw (
+      ap (λ (t : Told). t .number) tells,
+      ap (λ (t : Told). t .row) tells,
+      ap (λ (t : Told). t .column) tells,
+      printed .1 .0,
+      printed .1 .1,
+    )

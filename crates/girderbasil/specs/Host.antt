@@ -1,10 +1,15 @@
 -- The paper's values of the structs of numbers in which answers cross to a host. Document 01: "The host program on the phone calls it with
 -- numbers and byte slices and must get the same answers."
+use mathlib.Core.List.{List}
+use Prim.Native.Nat.{ℕ}
 use lib.Dec.{eqb}
+use lib.ListN.{length}
 use Rattle.answer.specs.Told.{Told}
 use Rattle.diagnosis.specs.Answers.{ToldScoring}
+use Rattle.diagnosis.specs.Program.{diagnosing, mostReportBytes, output, outputBytes}
 use Rattle.girderbasil.specs.declared.HostAnswer.{HostAnswer}
 use Rattle.girderbasil.specs.declared.HostScoring.{HostScoring}
+use Rattle.girderbasil.specs.declared.HostOutput.{HostOutput}
 
 -- A count or a refusal.
 abbrev pub toldHost : HostAnswer → Told
@@ -18,4 +23,14 @@ toldHostScoring answer = record {
   row = answer .row;
   column = answer .column;
   result = record { scores = answer .scores; count = answer .count; verdict = answer .verdict };
+}
+
+-- What the scoring program prints for a sheet, from the front of 455 bytes, with the number, row and column of the refusal that it tells, if any.
+abbrev pub printedFor : List ℕ → HostOutput
+printedFor sheet = record {
+  number = diagnosing sheet mostReportBytes .number;
+  row = diagnosing sheet mostReportBytes .row;
+  column = diagnosing sheet mostReportBytes .column;
+  count = length (output sheet);
+  bytes = outputBytes sheet;
 }

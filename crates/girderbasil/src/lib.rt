@@ -6,6 +6,7 @@
 // these structs to the paper's values stand in specs/Host.antt; include/girderbasil.h is the same
 // interface for C.
 use answer::Answer;
+use diagnosis::MOST_REPORT_BYTES;
 use diagnosis::Outcome;
 use diagnosis::Record;
 ghost use mathlib.Core.Path.{_≡_};
@@ -15,7 +16,7 @@ ghost use Rattle.answer.specs.Told.{told};
 ghost use Rattle.sheet.specs.Sheet.{reading, afterReading};
 ghost use Rattle.diagnosis.specs.Answers.{scoring};
 ghost use Rattle.diagnosis.specs.Report.{reporting, afterReporting};
-ghost use Rattle.girderbasil.specs.Host.{toldHost, toldHostScoring};
+ghost use Rattle.girderbasil.specs.Host.{toldHost, toldHostScoring, printedFor};
 
 // Every answer begins with the same three fields, so that a host reads any refusal in one way.
 
@@ -37,6 +38,18 @@ pub struct HostScoring {
     pub scores: [u32; 6],
     pub count: u32,
     pub verdict: u32,
+}
+
+// What the scoring program prints for a sheet: `number` is 0 where that is the report, and else it is the
+// line of the refusal.
+#[repr(C)]
+pub struct HostOutput {
+    pub number: u32,
+    pub row: u32,
+    pub column: u32,
+    // How many bytes are printed; those after them are 0.
+    pub count: u32,
+    pub bytes: [u8; MOST_REPORT_BYTES],
 }
 
 // An answer as a host gets it.
@@ -114,4 +127,23 @@ pub extern "C" fn girderbasil_write_report(table: &[u32], report: &mut [u8]) -> 
     ensures report { λ _. ⌜ now (report .exit) ≡ afterReporting (now (table .entry)) (now (report .entry)) ⌝ }
 {
     host_answer(diagnosis::report(table, report))
+}
+
+// What the scoring program prints for a sheet: its report, or the line of its refusal alone. Nothing is
+// lent to be filled.
+#[no_mangle]
+pub extern "C" fn girderbasil_diagnose(sheet: &[u8]) -> HostOutput
+    ensures { λ r. ⌜ r ≡ printedFor (now (sheet .entry)) ⌝ }
+{
+    let output = diagnosis::output_of(sheet);
+    let answer = output.answer;
+    let tells = host_answer(answer);
+    let bytes = output.bytes;
+    HostOutput {
+        number: tells.number,
+        row: tells.row,
+        column: tells.column,
+        count: output.length as u32,
+        bytes,
+    }
 }
