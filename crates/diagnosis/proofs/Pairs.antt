@@ -18,7 +18,7 @@ use Rattle.method.proofs.Tables.{everyBelow, at-every}
 use Rattle.diagnosis.specs.House.{marked, fullScore}
 use Rattle.diagnosis.specs.Comparison.{mayDiffer, NoLower, Worse, InHouse, Kept, Applies}
 use Rattle.diagnosis.specs.Worked.{p10, sound, heavy, zone100, softGround, overTen, moreMarks, allWorse, figures, sameBands}
-use Rattle.diagnosis.proofs.Examples.{zones-known, p10-judged, p10-rises, two-judged, worsened-figures}
+use Rattle.diagnosis.proofs.Examples.{zones-known, p10-judged, p10-rises, two-judged, sound-figures, heavy-figures, zone-figures, soft-ground-figures, over-ten-figures, more-marks-figures, all-worse-figures}
 
 -- Whether the first rows of two tables, so many, hold equal numbers wherever they may not differ.
 alike : List ℕ → List ℕ → ℕ → Bool
@@ -80,7 +80,7 @@ module _
     (b : figures B ≡ scored ∷ sameBands ∷ [])
   where
     band-same : (i : ℕ) → getD (getD (figures B) 1 []) i 0 ≡ getD (getD (figures sound) 1 []) i 0
-    band-same i = ap (λ (l : List (List ℕ)). getD (getD l 1 []) i 0) b ∙ sym (ap (λ (l : List (List ℕ)). getD (getD l 1 []) i 0) (worsened-figures .0))
+    band-same i = ap (λ (l : List (List ℕ)). getD (getD l 1 []) i 0) b ∙ sym (ap (λ (l : List (List ℕ)). getD (getD l 1 []) i 0) sound-figures)
 
     applies : NoLower sound B → within (marked sound) (marked B) ≡ true → Applies sound B
     applies no-lower marks = record {
@@ -98,10 +98,10 @@ pub worsened :
     Applies sound heavy × Applies sound zone100 × Applies sound softGround × Applies sound overTen × Applies sound moreMarks × Applies sound allWorse
 unfolding p10-worse
 worsened = (
-  applies heavy (two-judged .1) refl refl (worsened-figures .1) (record { heavier = omega arith; higher = omega arith; softer = omega arith; older = omega arith }) refl,
-  applies zone100 (two-judged .2) refl refl (worsened-figures .2) (record { heavier = omega arith; higher = omega arith; softer = omega arith; older = omega arith }) refl,
-  applies softGround (two-judged .3) refl refl (worsened-figures .3) (record { heavier = omega arith; higher = omega arith; softer = omega arith; older = omega arith }) refl,
-  applies overTen (two-judged .4) refl refl (worsened-figures .4) (record { heavier = omega arith; higher = omega arith; softer = omega arith; older = omega arith }) refl,
-  applies moreMarks (two-judged .5) refl refl (worsened-figures .5) (record { heavier = omega arith; higher = omega arith; softer = omega arith; older = omega arith }) refl,
-  applies allWorse (two-judged .6) refl refl (worsened-figures .6) (record { heavier = omega arith; higher = omega arith; softer = omega arith; older = omega arith }) refl,
+  applies heavy (two-judged .1) refl refl heavy-figures (record { heavier = omega arith; higher = omega arith; softer = omega arith; older = omega arith }) refl,
+  applies zone100 (two-judged .2) refl refl zone-figures (record { heavier = omega arith; higher = omega arith; softer = omega arith; older = omega arith }) refl,
+  applies softGround (two-judged .3) refl refl soft-ground-figures (record { heavier = omega arith; higher = omega arith; softer = omega arith; older = omega arith }) refl,
+  applies overTen (two-judged .4) refl refl over-ten-figures (record { heavier = omega arith; higher = omega arith; softer = omega arith; older = omega arith }) refl,
+  applies moreMarks (two-judged .5) refl refl more-marks-figures (record { heavier = omega arith; higher = omega arith; softer = omega arith; older = omega arith }) refl,
+  applies allWorse (two-judged .6) refl refl all-worse-figures (record { heavier = omega arith; higher = omega arith; softer = omega arith; older = omega arith }) refl,
 )

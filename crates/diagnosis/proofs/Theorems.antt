@@ -92,7 +92,15 @@ pub worsened-figures :
     × (figures overTen ≡ (97 ∷ 192 ∷ 251 ∷ 179 ∷ []) ∷ sameBands ∷ [])
     × (figures moreMarks ≡ (80 ∷ 158 ∷ 208 ∷ 148 ∷ []) ∷ sameBands ∷ [])
     × (figures allWorse ≡ (37 ∷ 74 ∷ 87 ∷ 62 ∷ []) ∷ sameBands ∷ [])
-worsened-figures = examples.worsened-figures
+worsened-figures = (
+  examples.sound-figures,
+  examples.heavy-figures,
+  examples.zone-figures,
+  examples.soft-ground-figures,
+  examples.over-ten-figures,
+  examples.more-marks-figures,
+  examples.all-worse-figures,
+)
 
 -- So does the verdict's record, from 2 to 4; and these are the places of a record.
 pub worsened-records :

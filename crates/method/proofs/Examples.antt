@@ -1,16 +1,15 @@
 -- Document 01's worked examples on plain numbers, its table of layout factors, and an instance of each law that compares, in which a number
 -- really falls, by computation. Assumes nothing.
 use mathlib.Core.Path.{_≡_, refl}
-use mathlib.Core.List.{[], _∷_}
 use Prim.Native.Nat.{_*_, _≤_}
 use lib.Dec.{lit<, lit≤}
 use Rattle.method.specs.Printed.{nth}
 use Rattle.method.specs.Held.{position, foundationUsed, sharedRow, entry, interpolated, rowFactor, jointFactor, solidShare, openingShare, wallShare}
 use Rattle.method.specs.Required.{topLine, constant, groundFactor, narrowFactor, requiredStrength}
-use Rattle.method.specs.LayoutFactor.{reached, band, floorType, layoutFactor, byFloorType}
+use Rattle.method.specs.LayoutFactor.{reached, band, floorType, layoutFactor}
 use Rattle.method.specs.Deterioration.{points, fraction, countedMarks, factorOf, deteriorationFactor}
 use Rattle.method.specs.Score.{score, cappedScore, verdict}
-use Rattle.method.specs.Worked.{worked, expected}
+use Rattle.method.specs.Worked.{worked, expected, layoutTable, documentTable}
 use Rattle.method.proofs.Requirements.{required-rises}
 use Rattle.method.proofs.Bands.{band-falls, layout-falls}
 use Rattle.method.proofs.Fractions.{deterioration-falls}
@@ -21,25 +20,7 @@ unfolding position foundationUsed sharedRow entry interpolated rowFactor jointFa
 worked-out = refl
 
 -- Document 01's own table, by lower and higher band, A as 0 to E as 4, is the one that 000 prints.
-pub document-table :
-    (byFloorType 0 0 ∷ byFloorType 1 1 ∷ byFloorType 1 2 ∷ byFloorType 2 2 ∷ byFloorType 2 3 ∷ byFloorType 2 4  -- AA, BB, BC, CC, CD, CE
-    ∷ byFloorType 0 1  -- AB
-    ∷ byFloorType 0 2  -- AC
-    ∷ byFloorType 0 3  -- AD
-    ∷ byFloorType 0 4  -- AE
-    ∷ byFloorType 1 3  -- BD
-    ∷ byFloorType 1 4  -- BE
-    ∷ byFloorType 3 3 ∷ byFloorType 3 4 ∷ byFloorType 4 4  -- DD, DE, EE
-    ∷ [])
-    ≡ ((100 ∷ 90 ∷ 80 ∷ []) ∷ (100 ∷ 90 ∷ 80 ∷ []) ∷ (100 ∷ 90 ∷ 80 ∷ []) ∷ (100 ∷ 90 ∷ 80 ∷ []) ∷ (100 ∷ 90 ∷ 80 ∷ []) ∷ (100 ∷ 90 ∷ 80 ∷ [])
-    ∷ (70 ∷ 65 ∷ 60 ∷ [])
-    ∷ (65 ∷ 60 ∷ 55 ∷ [])
-    ∷ (60 ∷ 55 ∷ 50 ∷ [])
-    ∷ (55 ∷ 50 ∷ 45 ∷ [])
-    ∷ (75 ∷ 70 ∷ 60 ∷ [])
-    ∷ (70 ∷ 65 ∷ 55 ∷ [])
-    ∷ (100 ∷ 100 ∷ 100 ∷ []) ∷ (100 ∷ 100 ∷ 100 ∷ []) ∷ (100 ∷ 100 ∷ 100 ∷ [])
-    ∷ [])
+pub document-table : layoutTable ≡ documentTable
 unfolding layoutFactor nth
 document-table = refl
 

@@ -1,17 +1,16 @@
 -- The method's theorems on one page, each stated in full and proved elsewhere: the last line of each names the law. What they speak of is
 -- defined in specs/. Assumes nothing.
 use mathlib.Core.Path.{_≡_}
-use mathlib.Core.List.{[], _∷_}
 use Prim.Native.Nat.{ℕ, _+_, _*_, _<_, _≤_, max}
 use lib.Bits.{bitAnd}
 use lib.Count.{ones}
 use Rattle.method.specs.declared.deterioration.Fraction.{Fraction}
 use Rattle.method.specs.Held.{mostHeld}
 use Rattle.method.specs.Required.{requiredStrength, mostRequired}
-use Rattle.method.specs.LayoutFactor.{band, layoutFactor, byFloorType}
+use Rattle.method.specs.LayoutFactor.{band, layoutFactor}
 use Rattle.method.specs.Deterioration.{itemPoints, itemPointsUnderTen, points, _at-most_, deteriorationFactor}
 use Rattle.method.specs.Score.{score, scoreBeforeLayout, cappedScore, verdict}
-use Rattle.method.specs.Worked.{worked, expected}
+use Rattle.method.specs.Worked.{worked, expected, layoutTable, documentTable}
 use Rattle.method.proofs.Requirements as requirements
 use Rattle.method.proofs.Bands as bands
 use Rattle.method.proofs.Points as counts
@@ -20,25 +19,7 @@ use Rattle.method.proofs.Comparisons as comparisons
 use Rattle.method.proofs.Examples as examples
 
 -- Layout factor. Document 01's table, by lower and higher band (A is 0, E is 4) and by floor type 1/2/3, is what the layout factor gives.
-pub document-table :
-    (byFloorType 0 0 ∷ byFloorType 1 1 ∷ byFloorType 1 2 ∷ byFloorType 2 2 ∷ byFloorType 2 3 ∷ byFloorType 2 4  -- AA, BB, BC, CC, CD, CE
-    ∷ byFloorType 0 1  -- AB
-    ∷ byFloorType 0 2  -- AC
-    ∷ byFloorType 0 3  -- AD
-    ∷ byFloorType 0 4  -- AE
-    ∷ byFloorType 1 3  -- BD
-    ∷ byFloorType 1 4  -- BE
-    ∷ byFloorType 3 3 ∷ byFloorType 3 4 ∷ byFloorType 4 4  -- DD, DE, EE
-    ∷ [])
-    ≡ ((100 ∷ 90 ∷ 80 ∷ []) ∷ (100 ∷ 90 ∷ 80 ∷ []) ∷ (100 ∷ 90 ∷ 80 ∷ []) ∷ (100 ∷ 90 ∷ 80 ∷ []) ∷ (100 ∷ 90 ∷ 80 ∷ []) ∷ (100 ∷ 90 ∷ 80 ∷ [])
-    ∷ (70 ∷ 65 ∷ 60 ∷ [])
-    ∷ (65 ∷ 60 ∷ 55 ∷ [])
-    ∷ (60 ∷ 55 ∷ 50 ∷ [])
-    ∷ (55 ∷ 50 ∷ 45 ∷ [])
-    ∷ (75 ∷ 70 ∷ 60 ∷ [])
-    ∷ (70 ∷ 65 ∷ 55 ∷ [])
-    ∷ (100 ∷ 100 ∷ 100 ∷ []) ∷ (100 ∷ 100 ∷ 100 ∷ []) ∷ (100 ∷ 100 ∷ 100 ∷ [])
-    ∷ [])
+pub document-table : layoutTable ≡ documentTable
 document-table = examples.document-table
 
 -- It does not matter which end is which.

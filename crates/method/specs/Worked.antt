@@ -4,7 +4,7 @@ use mathlib.Core.List.{List, [], _∷_}
 use Prim.Native.Nat.{ℕ}
 use Rattle.method.specs.Held.{jointFactor, wallShare}
 use Rattle.method.specs.Required.{constant, narrowFactor, requiredStrength}
-use Rattle.method.specs.LayoutFactor.{band, floorType, layoutFactor}
+use Rattle.method.specs.LayoutFactor.{band, floorType, layoutFactor, byFloorType}
 use Rattle.method.specs.Deterioration.{itemPoints, itemPointsUnderTen, points, fraction, deteriorationFactor}
 use Rattle.method.specs.Score.{score, scoreBeforeLayout, cappedScore, verdict}
 
@@ -179,4 +179,30 @@ expected =
     ∷ 100
     ∷ 50
     ∷ 100
+    ∷ []
+
+-- The layout factors of every pair of a lower and a higher band (A is 0, E is 4), each by floor type 1/2/3, in the order of document 01's table,
+abbrev pub layoutTable : List (List ℕ)
+layoutTable =
+    byFloorType 0 0 ∷ byFloorType 1 1 ∷ byFloorType 1 2 ∷ byFloorType 2 2 ∷ byFloorType 2 3 ∷ byFloorType 2 4  -- AA, BB, BC, CC, CD, CE
+    ∷ byFloorType 0 1  -- AB
+    ∷ byFloorType 0 2  -- AC
+    ∷ byFloorType 0 3  -- AD
+    ∷ byFloorType 0 4  -- AE
+    ∷ byFloorType 1 3  -- BD
+    ∷ byFloorType 1 4  -- BE
+    ∷ byFloorType 3 3 ∷ byFloorType 3 4 ∷ byFloorType 4 4  -- DD, DE, EE
+    ∷ []
+
+-- and what that table says.
+abbrev pub documentTable : List (List ℕ)
+documentTable =
+    (100 ∷ 90 ∷ 80 ∷ []) ∷ (100 ∷ 90 ∷ 80 ∷ []) ∷ (100 ∷ 90 ∷ 80 ∷ []) ∷ (100 ∷ 90 ∷ 80 ∷ []) ∷ (100 ∷ 90 ∷ 80 ∷ []) ∷ (100 ∷ 90 ∷ 80 ∷ [])
+    ∷ (70 ∷ 65 ∷ 60 ∷ [])
+    ∷ (65 ∷ 60 ∷ 55 ∷ [])
+    ∷ (60 ∷ 55 ∷ 50 ∷ [])
+    ∷ (55 ∷ 50 ∷ 45 ∷ [])
+    ∷ (75 ∷ 70 ∷ 60 ∷ [])
+    ∷ (70 ∷ 65 ∷ 55 ∷ [])
+    ∷ (100 ∷ 100 ∷ 100 ∷ []) ∷ (100 ∷ 100 ∷ 100 ∷ []) ∷ (100 ∷ 100 ∷ 100 ∷ [])
     ∷ []

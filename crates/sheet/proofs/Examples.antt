@@ -63,20 +63,15 @@ p1-bytes-stay : afterWriting p1 (replicate 714 7) ≡ replicate 714 7
 unfolding afterWriting
 p1-bytes-stay = rw p1-short
 
-pub p1-round-trip :
-    ((reading p1Sheet 96 ≡ counted 11)
-    × (rowsRead p1Sheet (replicate 96 7) ≡ p1)
-    × (afterReading p1Sheet (replicate 96 7) ≡ p1 ++ replicate 8 7))
-    × ((writing p1 720 ≡ counted 715)
-    × (bytesWritten p1 (replicate 720 7) ≡ p1Sheet)
-    × (afterWriting p1 (replicate 720 7) ≡ p1Sheet ++ replicate 5 7))
-    × ((writing p1 714 ≡ refusal 9 0 0)
-    × (afterWriting p1 (replicate 714 7) ≡ replicate 714 7))
-p1-round-trip = (
-  (p1-read, rw (p1-read, p1-table-after), p1-table-after),
-  (p1-written, rw (p1-written, p1-bytes-after), p1-bytes-after),
-  (p1-short, p1-bytes-stay),
-)
+pub p1-read-in : (reading p1Sheet 96 ≡ counted 11) × (rowsRead p1Sheet (replicate 96 7) ≡ p1) × (afterReading p1Sheet (replicate 96 7) ≡ p1 ++ replicate 8 7)
+p1-read-in = (p1-read, rw (p1-read, p1-table-after), p1-table-after)
+
+pub p1-written-out :
+    (writing p1 720 ≡ counted 715) × (bytesWritten p1 (replicate 720 7) ≡ p1Sheet) × (afterWriting p1 (replicate 720 7) ≡ p1Sheet ++ replicate 5 7)
+p1-written-out = (p1-written, rw (p1-written, p1-bytes-after), p1-bytes-after)
+
+pub p1-too-short : (writing p1 714 ≡ refusal 9 0 0) × (afterWriting p1 (replicate 714 7) ≡ replicate 714 7)
+p1-too-short = (p1-short, p1-bytes-stay)
 
 -- The theorems of the round trip say the same of P1.
 p1-again : afterWriting (rowsRead p1Sheet (replicate 96 7)) (replicate 720 7) ≡ p1Sheet ++ replicate 5 7

@@ -82,4 +82,4 @@ pub p1-round-trip :
     × (afterWriting p1 (replicate 720 7) ≡ p1Sheet ++ replicate 5 7))
     × ((writing p1 714 ≡ refusal 9 0 0)
     × (afterWriting p1 (replicate 714 7) ≡ replicate 714 7))
-p1-round-trip = examples.p1-round-trip
+p1-round-trip = (examples.p1-read-in, examples.p1-written-out, examples.p1-too-short)

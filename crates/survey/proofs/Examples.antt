@@ -1,7 +1,7 @@
 -- The definitions worked through, by computation: document 01's P1 and a house of two storeys are accepted, where their rows stand, which
 -- walls each storey has, and a table for each refusal. Assumes nothing.
 use mathlib.Core.Path.{_≡_, refl, ap}
-use mathlib.Core.List.{List, [], _∷_, map}
+use mathlib.Core.List.{[], _∷_, map}
 use Prim.Native.Nat.{ℕ, _%_, _<_, _≤_, zero-le}
 use native.Mathlib.Nat.{le-refl}
 use native.Mathlib.Omega.{arith}
@@ -18,6 +18,7 @@ use Rattle.survey.specs.Ranges as ranges
 use Rattle.survey.specs.Judgement.{none, _then_, test, outside, leftmost, wrongColumn, houseFault, storeyFault, endsFault, storeyBefore, wallFault, within, partsFault, rowFault, judging}
 use Rattle.survey.specs.Acceptance.{Accepted}
 use Rattle.survey.specs.Walls.{rowsFrom, rowsWhere, isWallOf, storeyWalls, runStart, runLength, storeyRun}
+use Rattle.survey.specs.Worked.{groundWalls, upperWalls, ofStoreys}
 use Rattle.survey.proofs.Acceptance.{accepted, made-accepted}
 use Rattle.survey.proofs.StoreyWalls.{run-is-walls, walls-refused, walls-lacking}
 
@@ -96,21 +97,10 @@ rows-stand = refl
 pub two-walls :
     let two = twoStoreys 1 90 1 1 2048 in
     let refused = twoStoreys 1 95 1 1 2048 in
-    let asked : List ℕ = 0 ∷ 1 ∷ 2 ∷ 3 ∷ [] in
-    let ground : List ℕ =
-    4 ∷ 1 ∷ 1 ∷ 1 ∷ 50 ∷ 5000 ∷ 1 ∷ 1
-    ∷ 4 ∷ 1 ∷ 1 ∷ 2 ∷ 50 ∷ 6000 ∷ 1 ∷ 1
-    ∷ 4 ∷ 1 ∷ 2 ∷ 2 ∷ 50 ∷ 12000 ∷ 1 ∷ 1
-    ∷ [] in
-    let upper : List ℕ =
-    4 ∷ 2 ∷ 1 ∷ 1 ∷ 50 ∷ 3500 ∷ 1 ∷ 1
-    ∷ 4 ∷ 2 ∷ 1 ∷ 3 ∷ 50 ∷ 3500 ∷ 1 ∷ 1
-    ∷ 4 ∷ 2 ∷ 2 ∷ 2 ∷ 50 ∷ 5000 ∷ 1 ∷ 1
-    ∷ [] in
-    (map (storeyWalls two) asked ≡ [] ∷ ground ∷ upper ∷ [] ∷ [])
-    × (map (storeyRun two) asked ≡ [] ∷ ground ∷ upper ∷ [] ∷ [])
-    × (map (storeyWalls refused) asked ≡ [] ∷ [] ∷ [] ∷ [] ∷ [])
-    × (map (storeyRun refused) asked ≡ [] ∷ ground ∷ upper ∷ [] ∷ [])
+    (ofStoreys (storeyWalls two) ≡ [] ∷ groundWalls ∷ upperWalls ∷ [] ∷ [])
+    × (ofStoreys (storeyRun two) ≡ [] ∷ groundWalls ∷ upperWalls ∷ [] ∷ [])
+    × (ofStoreys (storeyWalls refused) ≡ [] ∷ [] ∷ [] ∷ [] ∷ [])
+    × (ofStoreys (storeyRun refused) ≡ [] ∷ groundWalls ∷ upperWalls ∷ [] ∷ [])
 unfolding storeyWalls rowsWhere rowsFrom isWallOf storeyRun runStart runLength first
 two-walls = (rw two-counted, refl, rw two-refused, refl)
 

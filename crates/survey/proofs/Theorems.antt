@@ -11,6 +11,7 @@ use Rattle.survey.specs.Ranges as ranges
 use Rattle.survey.specs.Judgement.{judging}
 use Rattle.survey.specs.Acceptance.{Accepted}
 use Rattle.survey.specs.Walls.{storeyWalls, storeyRun}
+use Rattle.survey.specs.Worked.{groundWalls, upperWalls, ofStoreys}
 use Rattle.survey.proofs.RefusalNumbers as refusal-numbers
 use Rattle.survey.proofs.Acceptance as acceptance
 use Rattle.survey.proofs.StoreyWalls as storey-walls
@@ -88,21 +89,10 @@ two-refused = examples.two-refused
 pub two-walls :
     let two = twoStoreys 1 90 1 1 2048 in
     let refused = twoStoreys 1 95 1 1 2048 in
-    let asked : List ℕ = 0 ∷ 1 ∷ 2 ∷ 3 ∷ [] in
-    let ground : List ℕ =
-    4 ∷ 1 ∷ 1 ∷ 1 ∷ 50 ∷ 5000 ∷ 1 ∷ 1
-    ∷ 4 ∷ 1 ∷ 1 ∷ 2 ∷ 50 ∷ 6000 ∷ 1 ∷ 1
-    ∷ 4 ∷ 1 ∷ 2 ∷ 2 ∷ 50 ∷ 12000 ∷ 1 ∷ 1
-    ∷ [] in
-    let upper : List ℕ =
-    4 ∷ 2 ∷ 1 ∷ 1 ∷ 50 ∷ 3500 ∷ 1 ∷ 1
-    ∷ 4 ∷ 2 ∷ 1 ∷ 3 ∷ 50 ∷ 3500 ∷ 1 ∷ 1
-    ∷ 4 ∷ 2 ∷ 2 ∷ 2 ∷ 50 ∷ 5000 ∷ 1 ∷ 1
-    ∷ [] in
-    (map (storeyWalls two) asked ≡ [] ∷ ground ∷ upper ∷ [] ∷ [])
-    × (map (storeyRun two) asked ≡ [] ∷ ground ∷ upper ∷ [] ∷ [])
-    × (map (storeyWalls refused) asked ≡ [] ∷ [] ∷ [] ∷ [] ∷ [])
-    × (map (storeyRun refused) asked ≡ [] ∷ ground ∷ upper ∷ [] ∷ [])
+    (ofStoreys (storeyWalls two) ≡ [] ∷ groundWalls ∷ upperWalls ∷ [] ∷ [])
+    × (ofStoreys (storeyRun two) ≡ [] ∷ groundWalls ∷ upperWalls ∷ [] ∷ [])
+    × (ofStoreys (storeyWalls refused) ≡ [] ∷ [] ∷ [] ∷ [] ∷ [])
+    × (ofStoreys (storeyRun refused) ≡ [] ∷ groundWalls ∷ upperWalls ∷ [] ∷ [])
 two-walls = examples.two-walls
 
 -- A run ends where another storey's wall comes: here the second of the ground storey's three is made one.
