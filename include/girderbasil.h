@@ -1,12 +1,15 @@
 /* Girderbasil: earthquake diagnosis sheets of Japanese wooden houses, scored (general diagnosis, method 1).
  *
- * Three functions, from a sheet's bytes to its report's: read, score, write report. Each is proved to
- * answer what the customer's paper (document 01) defines, for every input, and to leave lent storage as it
- * defines. None keeps anything between calls, allocates, or calls the system, so any threads may call them.
+ * Four functions. Three go from a sheet's bytes to its report's by steps: read, score, write report. The
+ * fourth, diagnose, goes all the way at once, and for a refused sheet has the line that tells the refusal.
+ * Each is proved to answer what the customer's paper (document 01) defines, for every input, and to leave
+ * lent storage as it defines. None keeps anything between calls, allocates, or calls the system, so any
+ * threads may call them.
  *
  * What the caller has to see to, as with any C function: a pointer is aligned for its type and stands for as
  * many elements as the length beside it says, and storage that is lent to be filled overlaps no other
- * argument. With length 0 the pointer may be null. A call takes some 10 KB of stack at most.
+ * argument. With length 0 the pointer may be null. A call takes some 10 KB of stack at most, and one of
+ * diagnose, which holds a table of its own, some 21 KB.
  *
  * Link target/staticlib/libgirderbasil.a, which `rt staticlib girderbasil` builds (x86-64).
  */
@@ -61,6 +64,15 @@ typedef struct {
     uint32_t verdict;   /* 1 to 4 */
 } girderbasil_scoring;
 
+/* What the scoring program prints for a sheet. */
+typedef struct {
+    uint32_t number; /* 0 where it is the report, else the refusal's number; then it is the refusal's line */
+    uint32_t row;
+    uint32_t column;
+    uint32_t count; /* how many bytes are printed, for a refusal too; the bytes after them are 0 */
+    uint8_t bytes[GIRDERBASIL_MOST_REPORT_BYTES];
+} girderbasil_output;
+
 /* The structs as the library has them. A compiler of C11 or C++11 refuses this header where its own differ. */
 #if defined(__cplusplus)
 #if __cplusplus >= 201103L
@@ -82,6 +94,12 @@ girderbasil_assert(offsetof(girderbasil_scoring, column) == 8);
 girderbasil_assert(offsetof(girderbasil_scoring, scores) == 12);
 girderbasil_assert(offsetof(girderbasil_scoring, count) == 36);
 girderbasil_assert(offsetof(girderbasil_scoring, verdict) == 40);
+girderbasil_assert(sizeof(girderbasil_output) == 472);
+girderbasil_assert(offsetof(girderbasil_output, number) == 0);
+girderbasil_assert(offsetof(girderbasil_output, row) == 4);
+girderbasil_assert(offsetof(girderbasil_output, column) == 8);
+girderbasil_assert(offsetof(girderbasil_output, count) == 12);
+girderbasil_assert(offsetof(girderbasil_output, bytes) == 16);
 #undef girderbasil_assert
 #endif
 
@@ -107,6 +125,13 @@ girderbasil_scoring girderbasil_score(const uint32_t *table, size_t table_length
  */
 girderbasil_answer girderbasil_write_report(const uint32_t *table, size_t table_length,
                                             uint8_t *report, size_t report_length);
+
+/* What the scoring program prints for a sheet: its report, or the line of its refusal alone. Writes nothing.
+ *
+ * Print the first `count` bytes in either case, so a host puts no line together itself. A sheet may be
+ * refused with any number but 9, as reading and then scoring refuse: there is always room.
+ */
+girderbasil_output girderbasil_diagnose(const uint8_t *sheet, size_t sheet_length);
 
 #ifdef __cplusplus
 }

@@ -4,10 +4,11 @@
 //! the borrow checker sees to it that storage lent to be filled overlaps nothing else.
 
 use crate::answers::{Record, Refusal};
-use crate::{MOST_REPORT_BYTES, MOST_ROWS, ROW};
 
 /// The boundary as it is, for those who need every field of an answer or have pointers of their own.
 pub mod raw {
+    use crate::MOST_REPORT_BYTES;
+
     /// `girderbasil_answer`: a count or a refusal.
     #[repr(C)]
     #[derive(Debug, Clone, Copy, PartialEq, Eq)]
@@ -30,6 +31,17 @@ pub mod raw {
         pub verdict: u32,
     }
 
+    /// `girderbasil_output`: what the scoring program prints, with the refusal that it tells.
+    #[repr(C)]
+    #[derive(Debug, Clone, Copy, PartialEq, Eq)]
+    pub struct Output {
+        pub number: u32,
+        pub row: u32,
+        pub column: u32,
+        pub count: u32,
+        pub bytes: [u8; MOST_REPORT_BYTES],
+    }
+
     // The caller of each sees to it that a pointer stands for as many elements as the length beside it says, or
     // for none with length 0, and that what is lent as `*mut` overlaps no other argument.
     unsafe extern "C" {
@@ -48,6 +60,8 @@ pub mod raw {
             report: *mut u8,
             report_length: usize,
         ) -> Answer;
+
+        pub fn girderbasil_diagnose(sheet: *const u8, sheet_length: usize) -> Output;
     }
 }
 
@@ -59,18 +73,12 @@ pub fn read(sheet: &[u8], table: &mut [u32]) -> Result<usize, Refusal> {
 /// Scores a table.
 pub fn score(table: &[u32]) -> Result<Record, Refusal> {
     let scoring = raw_score(table);
-    match scoring.number {
-        0 => Ok(Record {
-            scores: scoring.scores,
-            count: scoring.count,
-            verdict: scoring.verdict,
-        }),
-        number => Err(Refusal {
-            number,
-            row: scoring.row,
-            column: scoring.column,
-        }),
-    }
+    accepted(scoring.number, scoring.row, scoring.column)?;
+    Ok(Record {
+        scores: scoring.scores,
+        count: scoring.count,
+        verdict: scoring.verdict,
+    })
 }
 
 /// Writes a table's report into lent bytes: how many were written. A refusal leaves the bytes as they were.
@@ -80,17 +88,27 @@ pub fn write_report(table: &[u32], report: &mut [u8]) -> Result<usize, Refusal> 
 
 /// What the scoring program prints for a sheet: its report, or the line of its refusal alone.
 pub fn diagnose(sheet: &[u8]) -> Vec<u8> {
-    let mut table = [0; MOST_ROWS * ROW];
-    let mut report = [0; MOST_REPORT_BYTES];
-    let answer =
-        read(sheet, &mut table).and_then(|rows| write_report(&table[..rows * ROW], &mut report));
-    match answer {
-        Ok(count) => report[..count].to_vec(),
-        Err(Refusal {
-            number,
-            row,
-            column,
-        }) => format!("{0:8}{number:8}{row:8}{column:8}{0:8}{0:8}{0:8}{0:8}\n", 0).into_bytes(),
+    output(sheet).bytes().to_vec()
+}
+
+/// The same, with the refusal that it tells.
+pub fn output(sheet: &[u8]) -> Output {
+    Output(raw_diagnose(sheet))
+}
+
+/// What the scoring program prints for a sheet.
+#[derive(Debug, Clone, Copy, PartialEq, Eq)]
+pub struct Output(raw::Output);
+
+impl Output {
+    /// The report's bytes, or those of the refusal's line.
+    pub fn bytes(&self) -> &[u8] {
+        &self.0.bytes[..self.0.count as usize]
+    }
+
+    /// The refusal that the line tells; none where it is a report.
+    pub fn refusal(&self) -> Option<Refusal> {
+        accepted(self.0.number, self.0.row, self.0.column).err()
     }
 }
 
@@ -121,13 +139,25 @@ pub fn raw_write_report(table: &[u32], report: &mut [u8]) -> raw::Answer {
     }
 }
 
+/// The whole answer of `girderbasil_diagnose`, so that the bytes after those printed can be seen.
+pub fn raw_diagnose(sheet: &[u8]) -> raw::Output {
+    // SAFETY: the pointer comes from a slice of the length given, and nothing is written through it.
+    unsafe { raw::girderbasil_diagnose(sheet.as_ptr(), sheet.len()) }
+}
+
 fn count_or_refusal(answer: raw::Answer) -> Result<usize, Refusal> {
-    match answer.number {
-        0 => Ok(answer.count as usize),
-        number => Err(Refusal {
+    accepted(answer.number, answer.row, answer.column)?;
+    Ok(answer.count as usize)
+}
+
+/// The fields that every answer begins with: a refusal unless the number is 0.
+fn accepted(number: u32, row: u32, column: u32) -> Result<(), Refusal> {
+    match number {
+        0 => Ok(()),
+        _ => Err(Refusal {
             number,
-            row: answer.row,
-            column: answer.column,
+            row,
+            column,
         }),
     }
 }

@@ -82,6 +82,7 @@ struct Tally {
     read: [usize; 10],
     scored: [usize; 10],
     reported: [usize; 10],
+    printed: [usize; 10],
     /// Sheets refused for lent space that have a misprint too.
     short_before_misprint: usize,
     /// Tables refused on another ground for whose report no space was lent.
@@ -172,6 +173,20 @@ fn raw_scoring(answer: Result<Record, Refusal>) -> raw::Scoring {
     }
 }
 
+/// What is printed stands at the front, and the bytes after it are 0.
+fn raw_output(answer: Result<(), Refusal>, printed: &[u8]) -> raw::Output {
+    let refusal = answer.err().unwrap_or(Refusal::without_place(0));
+    let mut bytes = [0; MOST_REPORT_BYTES];
+    bytes[..printed.len()].copy_from_slice(printed);
+    raw::Output {
+        number: refusal.number,
+        row: refusal.row,
+        column: refusal.column,
+        count: printed.len() as u32,
+        bytes,
+    }
+}
+
 /// Compares buffers without printing thousands of numbers where they differ.
 fn assert_same<T: PartialEq + Debug>(found: &[T], expected: &[T], of_what: &str) {
     let first = found
@@ -256,6 +271,24 @@ fn check_report(random: &mut Random, table: &[u32], tally: &mut Tally) {
     }
 }
 
+/// Has the library tell what is printed for a sheet.
+fn check_output(random: &mut Random, sheet: &[u8], tally: &mut Tally) {
+    let expected = model::read(sheet, MOST_ROWS * ROW)
+        .and_then(|table| model::write_report(&table, MOST_REPORT_BYTES))
+        .map(drop);
+    let printed = model::diagnose(sheet);
+    let lent = Lent::copy_of(random, sheet, Random::bytes);
+    let after = lent.buffer.clone();
+
+    let output = library::raw_diagnose(lent.slice());
+
+    assert_eq!(output, raw_output(expected, &printed));
+    assert_same(&lent.buffer, &after, "the sheet");
+    assert_eq!(library::diagnose(sheet), printed);
+    assert_eq!(library::output(sheet).refusal(), expected.err());
+    tally.printed[number_of(&expected)] += 1;
+}
+
 /// A sheet from a table, which may be damaged. Numbers that no field holds are cut to what one does.
 fn sheet_of(table: &[u32]) -> Vec<u8> {
     let held: Vec<u32> = table.iter().map(|number| number % 100_000_000).collect();
@@ -274,7 +307,7 @@ fn check_tables(seed: u64, count: usize, make: fn(&mut Random) -> Vec<u32>) -> T
     tally
 }
 
-/// Has so many sheets of a maker read, and the tables scored and reported that they have.
+/// Has so many sheets of a maker read and diagnosed, and the tables scored and reported that they have.
 fn check_sheets(seed: u64, count: usize, make: fn(&mut Random) -> Vec<u8>) -> Tally {
     let mut random = Random::new(seed);
     let mut tally = Tally::default();
@@ -283,7 +316,7 @@ fn check_sheets(seed: u64, count: usize, make: fn(&mut Random) -> Vec<u8>) -> Ta
         if let Some(table) = check_read(&mut random, &sheet, &mut tally) {
             check_table(&mut random, &table, &mut tally);
         }
-        assert_eq!(library::diagnose(&sheet), model::diagnose(&sheet));
+        check_output(&mut random, &sheet, &mut tally);
     }
     println!("{tally:?}");
     tally
@@ -315,6 +348,7 @@ fn sheets_are_read_and_scored_as_by_the_model() {
     let tally = check_sheets(3, SHEETS, |random| sheet_of(&damage::any_table(random)));
     tally.assert_answers(&tally.read, &[0, 1, 9], 500);
     tally.assert_answers(&tally.scored, &[0, 3, 4, 5, 6, 7, 8], 100);
+    tally.assert_answers(&tally.printed, &[0, 1, 3, 4, 5, 6, 7, 8], 1_000);
     assert!(tally.read[0] >= SHEETS / 2);
     tally.assert_houses(100);
 }
@@ -328,6 +362,7 @@ fn damaged_sheets_are_refused_as_by_the_model() {
     });
     tally.assert_answers(&tally.read, &[0, 1, 2, 9], 5_000);
     assert!(tally.short_before_misprint >= 1_000);
+    assert!(tally.printed[2] >= 10_000);
     assert!(tally.cases >= 5_000);
 }
 
@@ -363,6 +398,9 @@ fn nothing_lent_may_be_null() {
         assert_eq!(answer, refused(Refusal::LENT_SPACE_SHORT));
         let scoring = raw::girderbasil_score(ptr::null(), 0);
         assert_eq!(scoring, raw_scoring(Err(Refusal::without_place(1))));
+        let output = raw::girderbasil_diagnose(ptr::null(), 0);
+        let refusal = Refusal::without_place(Refusal::SHEET_LENGTH);
+        assert_eq!(output, raw_output(Err(refusal), &model::diagnose(&[])));
         let answer =
             raw::girderbasil_write_report(ptr::null(), 0, report.as_mut_ptr(), report.len());
         assert_eq!(answer, refused(Refusal::SHEET_LENGTH));

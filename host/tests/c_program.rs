@@ -1,4 +1,4 @@
-//! The C example: it compiles without a warning, and prints what the scoring program does.
+//! The C example: it compiles without a warning, prints what the scoring program does, and shows the scores its own way.
 
 mod common;
 
@@ -66,6 +66,8 @@ fn the_example_sheets() {
     assert!(met >= 3);
     let output = run(&program, &common::top().join("examples/p1.sheet"));
     assert_eq!(output.stdout, worked::REPORT.as_bytes());
+    let shown = "storey 1, direction X: 0.47\nstorey 1, direction Y: 0.83\nverdict 4\n";
+    assert_eq!(String::from_utf8_lossy(&output.stderr), shown);
     assert_eq!(output.status.code(), Some(0));
 }
 
@@ -78,21 +80,24 @@ fn refused_sheets_are_told_with_row_before_column() {
         fs::write(&file, sheet).expect("the sheet is written");
         let output = run(&program, &file);
         assert_eq!(String::from_utf8_lossy(&output.stdout), line);
+        assert_eq!(output.stderr, b"");
         assert_eq!(output.status.code(), Some(1));
     }
 }
 
 #[test]
-fn a_report_that_cannot_be_printed() {
+fn a_report_or_line_that_cannot_be_printed() {
     let program = compiled(&common::folder("unprintable"));
-    let full = File::options().write(true).open("/dev/full");
-    let status = Command::new(program)
-        .arg(common::top().join("examples/p1.sheet"))
-        .stdout(full.expect("a device that is always full"))
-        .stderr(Stdio::null())
-        .status()
-        .expect("it runs");
-    assert_eq!(status.code(), Some(3));
+    for sheet in ["examples/p1.sheet", "examples/refused.sheet"] {
+        let full = File::options().write(true).open("/dev/full");
+        let status = Command::new(&program)
+            .arg(common::top().join(sheet))
+            .stdout(full.expect("a device that is always full"))
+            .stderr(Stdio::null())
+            .status()
+            .expect("it runs");
+        assert_eq!(status.code(), Some(3), "{sheet}");
+    }
 }
 
 #[test]

@@ -13,6 +13,7 @@
 #define COLUMNS 8
 #define FIELD 8
 #define LINE (COLUMNS * FIELD + 1)
+#define MOST_BYTES (7 * LINE)
 /* More rows than any table here has. */
 #define ROOM 400
 
@@ -115,7 +116,7 @@ static void compare(const char *of_what, const char *field, uint32_t told, uint3
 static void compare_bytes(const char *of_what, const void *found, const void *due, size_t length)
 {
     if (memcmp(found, due, length) != 0) {
-        printf("%s: what was lent holds something else than is due\n", of_what);
+        printf("%s: the bytes are other than is due\n", of_what);
         differences++;
     }
 }
@@ -143,6 +144,21 @@ static void compare_scoring(const char *of_what, girderbasil_scoring told, uint3
     compare(of_what, "verdict", told.verdict, verdict);
 }
 
+/* What is printed for a sheet: the fields, the bytes from the front, and 0 in every byte after them. */
+static void compare_output(const char *of_what, girderbasil_output told, uint32_t number, uint32_t row, uint32_t column,
+                           uint32_t count, const void *printed)
+{
+    uint8_t due[MOST_BYTES] = {0};
+
+    memcpy(due, printed, count);
+    compare(of_what, "number", told.number, number);
+    compare(of_what, "row", told.row, row);
+    compare(of_what, "column", told.column, column);
+    compare(of_what, "count", told.count, count);
+    compare(of_what, "room", (uint32_t)sizeof told.bytes, MOST_BYTES);
+    compare_bytes(of_what, told.bytes, due, sizeof due);
+}
+
 /* Has some bytes of the sheet at hand read into so many numbers. */
 static girderbasil_answer read_sheet(size_t length, size_t numbers)
 {
@@ -153,6 +169,13 @@ static girderbasil_answer read_sheet(size_t length, size_t numbers)
 static girderbasil_answer write_report(size_t numbers, size_t bytes)
 {
     return girderbasil_write_report(table, numbers, lent_report, bytes);
+}
+
+/* For the sheet at hand so many bytes are printed. */
+static void sheet_prints(const char *of_what, uint32_t number, uint32_t row, uint32_t column, uint32_t count,
+                         const void *printed)
+{
+    compare_output(of_what, girderbasil_diagnose(sheet, sheet_length), number, row, column, count, printed);
 }
 
 /* The sheet at hand is refused by the reader. */
@@ -274,6 +297,28 @@ static void try_most_report_bytes(void)
                    GIRDERBASIL_LENT_SPACE_SHORT, 0, 0, 0);
 }
 
+/* The longest report comes first: bytes of it that a shorter answer leaves behind would be seen. */
+static void try_printed(void)
+{
+    make_house(3, 300);
+    make_sheet();
+    write_report(rows * COLUMNS, sizeof lent_report);
+    sheet_prints("the longest report, printed", 0, 0, 0, MOST_BYTES, lent_report);
+
+    make_p1();
+    make_sheet();
+    sheet_prints("P1, printed", 0, 0, 0, 195, p1_report);
+    memcpy(sheet + 4 * LINE + 5 * FIELD, "   02000", FIELD);
+    sheet_prints("a leading zero, printed", GIRDERBASIL_MISPRINT, 5, 6, LINE,
+                 "       0       2       5       6       0       0       0       0\n");
+    put(3, 5, 3001);
+    make_sheet();
+    sheet_prints("ends that exceed the storey, printed", GIRDERBASIL_ENDS_EXCEED_STOREY, 3, 4, LINE,
+                 "       0       6       3       4       0       0       0       0\n");
+    compare_output("no sheet, printed", girderbasil_diagnose(NULL, 0), GIRDERBASIL_SHEET_LENGTH, 0, 0, LINE,
+                   "       0       1       0       0       0       0       0       0\n");
+}
+
 int main(void)
 {
     try_p1();
@@ -281,5 +326,6 @@ int main(void)
     try_line_and_row();
     try_most_rows();
     try_most_report_bytes();
+    try_printed();
     return differences == 0 ? 0 : 1;
 }
