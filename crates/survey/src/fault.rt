@@ -1,9 +1,10 @@
 // A row's fault, and its numbers against the ranges of its columns.
-use crate::table::cell;
 use answer::OUT_OF_RANGE;
 use answer::ROW;
 use answer::ROW_OUT_OF_ORDER;
 ghost use mathlib.Core.Path.{_≡_};
+ghost use Prim.Native.Nat.{_≤_, _+_, _*_};
+ghost use lib.ListN.{length};
 ghost use Rattle.survey.specs.Judgement.{fault, none, leftmost, wrongColumn};
 
 // A row's fault: a refusal's number and column; number 0 where the row has none.
@@ -29,11 +30,13 @@ pub(crate) fn no_fault() -> Fault
 
 // The leftmost column of a row whose number lies outside its range; 8 where none does.
 fn leftmost(table: &[u32], row: usize, low: [u32; 8], high: [u32; 8]) -> usize
+    requires { ⌜ 8 * row + 8 ≤ length (now table) ⌝ }
     ensures { λ r. ⌜ r ≡ leftmost low high (now (table .entry)) row ⌝ }
 {
+    let from = ROW * row;
     let mut column = 0;
     while column < ROW {
-        let number = cell(table, row, column);
+        let number = table[from + column];
         if number < low[column] {
             return column;
         }
@@ -53,6 +56,7 @@ pub(crate) fn columns_fault(
     high: [u32; 8],
     due: usize,
 ) -> Fault
+    requires { ⌜ 8 * row + 8 ≤ length (now table) ⌝ }
     ensures { λ r. ⌜ r ≡ wrongColumn due (leftmost low high (now (table .entry)) row) ⌝ }
 {
     let column = leftmost(table, row, low, high);

@@ -40,7 +40,8 @@ fn parts_row(table: &[u32], rows: usize, first: usize) -> usize
 
 // The fault of a row after the house's, by the place where it stands.
 fn row_fault(table: &[u32], storeys: usize, parts: usize, row: usize) -> Fault
-    requires { ⌜ (storeys ≡ cell (now table) 0 1) × (storeys ≤ 3) × (parts ≡ partsRow (now table)) × (0 < row) ⌝ }
+    requires rows { ⌜ (storeys ≡ cell (now table) 0 1) × (storeys ≤ 3) × (parts ≡ partsRow (now table)) × (0 < row) ⌝ }
+    requires place { ⌜ 8 * row + 8 ≤ length (now table) ⌝ }
     ensures { λ r. ⌜ r ≡ rowFault (now (table .entry)) row ⌝ }
 {
     if row <= storeys {

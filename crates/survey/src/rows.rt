@@ -18,7 +18,8 @@ use answer::NO_PARTS;
 use answer::ROW_OUT_OF_ORDER;
 use answer::TOO_MANY_WALLS;
 ghost use mathlib.Core.Path.{_≡_};
-ghost use Prim.Native.Nat.{_<_, _≤_};
+ghost use Prim.Native.Nat.{_<_, _≤_, _+_, _*_};
+ghost use lib.ListN.{length};
 ghost use Rattle.survey.specs.Table.{cell, firstWall};
 ghost use Rattle.survey.specs.Ranges.{zone, isOpening, wallColumns};
 ghost use Rattle.survey.specs.Judgement.{columnsFault, houseFault, storeyFault, endsFault, storeyBefore, wallFault, partsFault};
@@ -44,6 +45,7 @@ fn zone(number: u32) -> u32
 
 // The house row.
 pub(crate) fn house_fault(table: &[u32]) -> Fault
+    requires { ⌜ 8 ≤ length (now table) ⌝ }
     ensures { λ r. ⌜ r ≡ houseFault (now (table .entry)) ⌝ }
 {
     let zone = zone(cell(table, 0, ZONE));
@@ -58,7 +60,8 @@ pub(crate) fn house_fault(table: &[u32]) -> Fault
 
 // A storey's row, which is the row of its number.
 pub(crate) fn storey_fault(table: &[u32], row: usize) -> Fault
-    requires { ⌜ row ≤ 3 ⌝ }
+    requires row { ⌜ row ≤ 3 ⌝ }
+    requires place { ⌜ 8 * row + 8 ≤ length (now table) ⌝ }
     ensures { λ r. ⌜ r ≡ storeyFault (now (table .entry)) row ⌝ }
 {
     let storey = row as u32;
@@ -80,7 +83,8 @@ fn wide(number: u32) -> usize
 
 // A row of ends. `storeys` are the house's.
 pub(crate) fn ends_fault(table: &[u32], storeys: usize, row: usize) -> Fault
-    requires { ⌜ (storeys ≡ cell (now table) 0 1) × (storeys ≤ 3) × (storeys < row) × (row ≤ 9) ⌝ }
+    requires rows { ⌜ (storeys ≡ cell (now table) 0 1) × (storeys ≤ 3) × (storeys < row) × (row ≤ 9) ⌝ }
+    requires place { ⌜ 8 * row + 8 ≤ length (now table) ⌝ }
     ensures { λ r. ⌜ r ≡ endsFault (now (table .entry)) row ⌝ }
 {
     let ends = row - (storeys + 1);
@@ -129,7 +133,8 @@ fn storey_before(table: &[u32], first: usize, row: usize) -> u32
 
 // Refusals 3 and 4 for a wall whose storey does not fall. An opening has neither strength nor joint.
 fn wall_columns_fault(table: &[u32], storeys: u32, row: usize) -> Fault
-    requires { ⌜ storeys ≡ cell (now table) 0 1 ⌝ }
+    requires storeys { ⌜ storeys ≡ cell (now table) 0 1 ⌝ }
+    requires place { ⌜ 8 * row + 8 ≤ length (now table) ⌝ }
     ensures { λ r. ⌜ r ≡ columnsFault 1 (wallColumns (now (table .entry)) row) (now (table .entry)) row ⌝ }
 {
     if is_opening(cell(table, row, WALL_TYPE)) {
@@ -154,6 +159,7 @@ fn wall_columns_fault(table: &[u32], storeys: u32, row: usize) -> Fault
 pub(crate) fn wall_fault(table: &[u32], storeys: u32, first: usize, row: usize) -> Fault
     requires storeys { ⌜ storeys ≡ cell (now table) 0 1 ⌝ }
     requires first { ⌜ (first ≡ firstWall (now table)) × (first ≤ 10) × (first ≤ row) ⌝ }
+    requires place { ⌜ 8 * row + 8 ≤ length (now table) ⌝ }
     ensures { λ r. ⌜ r ≡ wallFault (now (table .entry)) row ⌝ }
 {
     if cell(table, row, STOREY) < storey_before(table, first, row) {
@@ -171,6 +177,7 @@ pub(crate) fn wall_fault(table: &[u32], storeys: u32, first: usize, row: usize) 
 
 // The parts row.
 pub(crate) fn parts_fault(table: &[u32], row: usize) -> Fault
+    requires { ⌜ 8 * row + 8 ≤ length (now table) ⌝ }
     ensures { λ r. ⌜ r ≡ partsFault (now (table .entry)) row ⌝ }
 {
     let found = columns_fault(

@@ -1,5 +1,5 @@
 -- `survey::fault::leftmost` meets its contract. The loop's invariant: every column before lies in its range. Assumes nothing.
-use mathlib.Core.Path.{_≡_, sym}
+use mathlib.Core.Path.{_≡_, refl, sym}
 use mathlib.Core.Bool.{false}
 use Prim.Native.Nat.{ℕ, _-_, _<_, _≤_}
 use borrow.Author.Needs.{needs}
@@ -11,16 +11,25 @@ use Rattle.survey.proofs.fault.leftmost.Statement.{statement}
 use Rattle.survey.proofs.fault.leftmost.Tie as tie
 
 abbrev Inv-loop : tie.InvT-loop
-Inv-loop table row low high column₀ column = (column ≤ 8) × ((k : ℕ) → k < column → outside low high table row k ≡ false)
+Inv-loop table row low high from column₀ column = (column ≤ 8) × ((k : ℕ) → k < column → outside low high table row k ≡ false)
 
 abbrev μ-loop : tie.MeasureT-loop
-μ-loop table row low high column₀ column = 8 - column
+μ-loop table row low high from column₀ column = 8 - column
+
+mul-from : tie.Need-mul-from Inv-loop μ-loop
+mul-from c = search needs
 
 loop-holds : tie.Need-loop-holds Inv-loop μ-loop
 loop-holds c = (search needs, below-none _)
 
-cell-requires : tie.Need-cell-requires Inv-loop μ-loop
-cell-requires c κs = search needs
+add-number : tie.Need-add-number Inv-loop μ-loop
+add-number c = search needs
+
+mul-number : tie.Need-mul-number Inv-loop μ-loop
+mul-number c = search needs
+
+shared-slice-read-number : tie.Need-shared-slice-read-number Inv-loop μ-loop
+shared-slice-read-number c = search needs
 
 mul-if1 : tie.Need-mul-if1 Inv-loop μ-loop
 mul-if1 c = search needs
@@ -31,8 +40,8 @@ array-read-if1 c = search needs
 returns : tie.Need-returns Inv-loop μ-loop
 unfolding leftmost
 returns c =
-    let at-cell = c .before in
-    sym (first-is _ _ _ (at-cell .before .loop-test .taken) (at-cell .before .before .loop .inv .1) (too-low _ _ _ _ _ (at-cell .cell .ensures) (c .if1 .taken)))
+    let at-read = c .before in
+    sym (first-is _ _ _ (at-read .before .loop-test .taken) (at-read .before .before .loop .inv .1) (too-low _ _ _ _ _ refl (c .if1 .taken)))
 
 mul-if2 : tie.Need-mul-if2 Inv-loop μ-loop
 mul-if2 c = search needs
@@ -44,9 +53,9 @@ returns-2 : tie.Need-returns-2 Inv-loop μ-loop
 unfolding leftmost
 returns-2 c =
     let at-if1 = c .before in
-    let at-cell = at-if1 .before in
-    sym (first-is _ _ _ (at-cell .before .loop-test .taken) (at-cell .before .before .loop .inv .1)
-    (too-high _ _ _ _ _ (at-cell .cell .ensures) (at-if1 .if1 .left) (c .if2 .taken)))
+    let at-read = at-if1 .before in
+    sym (first-is _ _ _ (at-read .before .loop-test .taken) (at-read .before .before .loop .inv .1)
+    (too-high _ _ _ _ _ refl (at-if1 .if1 .left) (c .if2 .taken)))
 
 add-column : tie.Need-add-column Inv-loop μ-loop
 add-column c = search needs
@@ -57,8 +66,7 @@ loop-less c = search needs
 loop-again : tie.Need-loop-again Inv-loop μ-loop
 loop-again c =
     let at-if1 = c .before in
-    let at-cell = at-if1 .before in
-    (search needs, below-more _ _ (at-cell .before .before .loop .inv .1) (inside _ _ _ _ _ (at-cell .cell .ensures) (at-if1 .if1 .left) (c .if2 .left)))
+    (search needs, below-more _ _ (at-if1 .before .before .before .loop .inv .1) (inside _ _ _ _ _ refl (at-if1 .if1 .left) (c .if2 .left)))
 
 returns-3 : tie.Need-returns-3 Inv-loop μ-loop
 unfolding leftmost
@@ -70,8 +78,11 @@ leftmost-spec =
     (tie.spec
     Inv-loop
     μ-loop
+    mul-from
     loop-holds
-    cell-requires
+    add-number
+    mul-number
+    shared-slice-read-number
     mul-if1
     array-read-if1
     returns

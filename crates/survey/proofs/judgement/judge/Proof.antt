@@ -33,7 +33,7 @@ whole : (c : tie.Else1 Inv-loop μ-loop) → Whole 8 (length (now (c .before .be
 whole c = rows-whole _ _ (c .before .rows-in .ensures) (c .if1 .left)
 
 house-fault-requires : tie.Need-house-fault-requires Inv-loop μ-loop
-house-fault-requires c κs = search needs
+house-fault-requires c κs = omega (arith, whole c)
 
 refused-requires : tie.Need-refused-requires Inv-loop μ-loop
 refused-requires c κs = search needs
@@ -77,8 +77,10 @@ loop-holds c =
 row-fault-requires : tie.Need-row-fault-requires Inv-loop μ-loop
 row-fault-requires c κs =
     let at-cell = c .before .before .before in
-    let house = house-storeys _ (clean-house (at-cell .before)) in
-    (at-cell .cell .ensures, omega (arith, house, at-cell .cell .ensures), c .before .before .parts-row .ensures, c .before .loop .inv .0)
+    let at-if2 = at-cell .before in
+    let at-if1 = at-if2 .before .before .before in
+    let house = house-storeys _ (clean-house at-if2) in
+    ((at-cell .cell .ensures, omega (arith, house, at-cell .cell .ensures), c .before .before .parts-row .ensures, c .before .loop .inv .0), omega (arith, whole at-if1))
 
 refused-requires-2 : tie.Need-refused-requires-2 Inv-loop μ-loop
 refused-requires-2 c κs = omega (arith, whole (c .before .before .before .before .before .before .before .before .before .before))

@@ -11,13 +11,13 @@ use Rattle.survey.proofs.judgement.row_fault.Tie as tie
 
 -- What the caller says: the house's storeys, the parts' row, and that the house's own row is past.
 storeys-known : (c : tie.Start) → c .args .storeys ≡ storeys (now (c .args .table))
-storeys-known c = c .pre .0
+storeys-known c = c .pre .0 .0
 
 parts-known : (c : tie.Start) → c .args .parts ≡ partsRow (now (c .args .table))
-parts-known c = c .pre .2
+parts-known c = c .pre .0 .2
 
 later : (c : tie.Start) → 0 < c .args .row
-later c = c .pre .3
+later c = c .pre .0 .3
 
 above : (c : tie.Else1) → storeys (now (c .before .before .args .table)) < c .before .before .args .row
 above c = rw (← storeys-known (c .before .before)) (c .if1 .left)

@@ -36,7 +36,7 @@ columns-fault-requires c κs = search needs
 -- The ranges as the code has them are those of the row.
 ranged : (c : tie.After-columns-fault)
     → let args = c .before .before .args in c .columns-fault .result ≡ columnsFault 3 (endsColumns (now (args .table)) (args .row)) (now (args .table)) (args .row)
-ranged c = rw (← c .before .before .pre .0) (c .columns-fault .ensures)
+ranged c = rw (← c .before .before .pre .0 .0) (c .columns-fault .ensures)
 
 returns : tie.Need-returns
 returns c = ends-columns _ _ (ranged (c .before .before)) (c .if1 .taken)
@@ -72,7 +72,7 @@ returns-2 : tie.Need-returns-2
 returns-2 c =
     let at-if1 = c .before .before .before .before .before .before .before .before in
     c .fault-at .ensures ∙ ends-exceed _ _ (ranged (at-if1 .before .before)) (at-if1 .if1 .left)
-    (rw (← at-if1 .before .before .before .before .pre .0) (omega arith))
+    (rw (← at-if1 .before .before .before .before .pre .0 .0) (omega arith))
 
 no-fault-requires : tie.Need-no-fault-requires
 no-fault-requires c κs = search needs
@@ -81,7 +81,7 @@ returns-3 : tie.Need-returns-3
 returns-3 c =
     let at-if1 = c .before .before .before .before .before .before .before .before in
     c .no-fault .ensures ∙ ends-right _ _ (ranged (at-if1 .before .before)) (at-if1 .if1 .left)
-    (rw (← at-if1 .before .before .before .before .pre .0) (omega arith))
+    (rw (← at-if1 .before .before .before .before .pre .0 .0) (omega arith))
 
 pub ends-fault-spec : {M : Type 1} → statement M
 ends-fault-spec =

@@ -15,7 +15,7 @@ columns-fault-requires c κs = search needs
 returns : tie.Need-returns
 returns c =
     let at-test = c .before .before in
-    rw (← at-test .before .cell .ensures, ← at-test .is-opening .ensures, c .before .if1 .taken, ← at-test .before .before .before .pre) (c .columns-fault .ensures)
+    rw (← at-test .before .cell .ensures, ← at-test .is-opening .ensures, c .before .if1 .taken, ← at-test .before .before .before .pre .0) (c .columns-fault .ensures)
 
 columns-fault-requires-2 : tie.Need-columns-fault-requires-2
 columns-fault-requires-2 c κs = search needs
@@ -23,7 +23,7 @@ columns-fault-requires-2 c κs = search needs
 returns-2 : tie.Need-returns-2
 returns-2 c =
     let at-test = c .before .before in
-    rw (← at-test .before .cell .ensures, ← at-test .is-opening .ensures, c .before .if1 .left, ← at-test .before .before .before .pre) (c .columns-fault2 .ensures)
+    rw (← at-test .before .cell .ensures, ← at-test .is-opening .ensures, c .before .if1 .left, ← at-test .before .before .before .pre .0) (c .columns-fault2 .ensures)
 
 pub wall-columns-fault-spec : {M : Type 1} → statement M
 wall-columns-fault-spec =

@@ -42,7 +42,7 @@ returns-3 : tie.Need-returns-3
 returns-3 c =
     let at-if2 = c .before .before in
     let at-columns = at-if2 .before .before in
-    let first = at-columns .before .before .before .before .before .pre .1 .0 in
+    let first = at-columns .before .before .before .before .before .pre .1 .0 .0 in
     c .fault-at2 .ensures ∙ wall-too-many _ _ (rises (at-columns .before)) (at-columns .wall-columns-fault .ensures) (at-if2 .if2 .left) (rw (← first) (c .before .if3 .taken))
 
 no-fault-requires : tie.Need-no-fault-requires
@@ -52,7 +52,7 @@ returns-4 : tie.Need-returns-4
 returns-4 c =
     let at-if2 = c .before .before in
     let at-columns = at-if2 .before .before in
-    let first = at-columns .before .before .before .before .before .pre .1 .0 in
+    let first = at-columns .before .before .before .before .before .pre .1 .0 .0 in
     c .no-fault .ensures ∙ wall-right _ _ (rises (at-columns .before)) (at-columns .wall-columns-fault .ensures) (at-if2 .if2 .left) (rw (← first) (c .before .if3 .left))
 
 pub wall-fault-spec : {M : Type 1} → statement M
