@@ -2,12 +2,13 @@
 use mathlib.Core.Path.{_≡_, refl, ap, _∙_}
 use mathlib.Core.Bool.{Bool, true, false, cond}
 use mathlib.Core.List.{List, [], _∷_, _++_, append-nil}
-use Prim.Native.Nat.{ℕ, zero, suc, _+_, _/_, _<_, _≤_}
-use native.Mathlib.Nat.{add-zero, le-refl}
+use Prim.Native.Nat.{ℕ, zero, suc, _+_, _-_, _*_, _/_, _<_, _≤_}
+use native.Mathlib.Nat.{zero-add, add-zero, le-refl, le-trans}
 use native.Mathlib.Numerals.{add-one}
 use native.Mathlib.Omega.{arith}
-use lib.ListN.{length, length-append}
-use lib.Dec.{lit≤}
+use lib.ListN.{length, take, drop, length-append}
+use lib.Dec.{lit≤, lit<}
+use Rattle.answer.proofs.Parts.{lent-part, part-element}
 use Rattle.survey.specs.Table.{cell, storeys}
 use Rattle.survey.specs.Judgement.{judging}
 use Rattle.survey.specs.Walls.{rowsFrom, storeyWalls}
@@ -19,12 +20,32 @@ use Rattle.method.proofs.Tables.{AllAtMost, all-append}
 use Rattle.method.proofs.Shares.{mostShare, share-most, held-append, held-most}
 use Rattle.diagnosis.specs.declared.strengths.Held.{Held}
 use Rattle.diagnosis.specs.House.{foundation, endA, endB, share, sharesWhere, heldWhere, inDirection, solidAtEnd, held, endHeld}
-use Rattle.diagnosis.specs.Internal.{heldBy, storeyHeld}
+use Rattle.diagnosis.specs.Internal.{heldBy, withWall, storeyHeld}
 
 -- What a wall adds to a sum is at most what it counts.
 pub added-most : (takes : Bool) {counted most : ℕ} → counted ≤ most → cond takes counted 0 ≤ most
 added-most true small = small
 added-most false small = omega arith
+
+-- A wall's row as the loop lends it, and its numbers.
+abbrev pub wallLent : List ℕ → ℕ → List ℕ
+wallLent walls row = take (8 * row + 8 - 8 * row) (drop (8 * row) walls)
+
+module _ (walls : List ℕ) (row : ℕ) where
+  wall-cell : (column : ℕ) → column < 8 → cell (wallLent walls row) 0 column ≡ cell walls row column
+  wall-cell column inside = rw (lent-part (8 * row) 8 walls, zero-add column) (part-element (8 * row) 8 walls column inside)
+
+  wall-direction : (direction : ℕ) → inDirection (wallLent walls row) direction 0 ≡ inDirection walls direction row
+  unfolding inDirection
+  wall-direction direction = rw (wall-cell 2 (lit< tt))
+
+  wall-solid : (direction end : ℕ) → solidAtEnd (wallLent walls row) direction end 0 ≡ solidAtEnd walls direction end row
+  unfolding solidAtEnd inDirection
+  wall-solid direction end = rw (wall-cell 2 (lit< tt), wall-cell 3 (lit< tt), wall-cell 7 (lit< tt))
+
+  pub wall-counts : (table : List ℕ) (storey : ℕ) → share table storey (wallLent walls row) 0 ≡ share table storey walls row
+  unfolding share
+  wall-counts table storey = rw (wall-cell 4 (lit< tt), wall-cell 5 (lit< tt), wall-cell 6 (lit< tt), wall-cell 7 (lit< tt))
 
 module _ (table : List ℕ) (storey : ℕ) (walls : List ℕ) where
   abbrev counts : ℕ → ℕ
@@ -85,11 +106,20 @@ module _ (table : List ℕ) (storey : ℕ) (walls : List ℕ) where
     pub no-walls : record { all = 0; a = 0; b = 0 } ≡ heldBy table storey walls direction 0
     no-walls = rw (none along, none (solid-at endA), none (solid-at endB))
 
-    -- The sums that the loop keeps, with one wall more.
-    pub wall-more : (row : ℕ) {sums : Held} {all a b : ℕ} → sums ≡ heldBy table storey walls direction row
-        → all ≡ cond (along row) (counts row) 0 → a ≡ cond (solid-at endA row) (counts row) 0 → b ≡ cond (solid-at endB row) (counts row) 0
-        → record { all = sums .all + all; a = sums .a + a; b = sums .b + b } ≡ heldBy table storey walls direction (row + 1)
-    wall-more row so-far e f g = rw (so-far, e, f, g, one-more along row, one-more (solid-at endA) row, one-more (solid-at endB) row)
+    -- The sums that the loop keeps, with one wall more, which is lent by its row.
+    pub wall-more : (row : ℕ) {sums : Held} {counted : ℕ} → sums ≡ heldBy table storey walls direction row → counted ≡ counts row
+        → withWall (wallLent walls row) direction counted sums ≡ heldBy table storey walls direction (row + 1)
+    wall-more row so-far count =
+        rw (
+          so-far,
+          count,
+          wall-direction walls row direction,
+          wall-solid walls row direction endA,
+          wall-solid walls row direction endB,
+          one-more along row,
+          one-more (solid-at endA) row,
+          one-more (solid-at endB) row,
+        )
 
 -- Of an accepted table, a storey's part is at most 300 walls, each of at most 20 m.
 module _ (table : List ℕ) (h : judging table .number ≡ 0) (storey : ℕ) {walls : List ℕ} (e : walls ≡ storeyWalls table storey) where
@@ -123,9 +153,10 @@ module _ (table : List ℕ) (h : judging table .number ≡ 0) (storey : ℕ) {wa
   sums-within direction n few e = (rw e (held-within _ n few), rw e (held-within _ n few), rw e (held-within _ n few))
 
   -- What adding a wall asks for.
-  pub wall-ready : (direction row : ℕ) {sums : Held} → row < length walls / 8 → sums ≡ heldBy table storey walls direction row
-      → (cell walls row 5 ≤ 20000) × ((sums .all ≤ mostHeld) × (sums .a ≤ mostHeld) × (sums .b ≤ mostHeld))
-  wall-ready direction row inside e = (walls-short row inside, sums-within direction row (omega arith) e)
+  pub wall-ready : (direction row : ℕ) {sums : Held} {counted : ℕ} → row < length walls / 8 → sums ≡ heldBy table storey walls direction row
+      → counted ≡ share table storey walls row → (counted ≤ mostHeld) × ((sums .all ≤ mostHeld) × (sums .a ≤ mostHeld) × (sums .b ≤ mostHeld))
+  wall-ready direction row inside e count =
+      (rw count (le-trans (share-at-most table storey walls row (walls-short row inside)) (lit≤ tt)), sums-within direction row (omega arith) e)
 
 pub storey-held-most : (table : List ℕ) → judging table .number ≡ 0 → (storey direction : ℕ) → held table storey direction ≤ mostHeld
 unfolding held

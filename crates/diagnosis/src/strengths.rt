@@ -18,13 +18,13 @@ use survey::columns::WEIGHT;
 use survey::columns::ZONE;
 ghost use mathlib.Core.Path.{_≡_};
 ghost use mathlib.Core.Bool.{cond};
-ghost use Prim.Native.Nat.{_≤_, _+_};
+ghost use Prim.Native.Nat.{_≤_};
 ghost use Rattle.method.specs.Held.{mostHeld};
-ghost use Rattle.survey.specs.Table.{cell, storeys};
+ghost use Rattle.survey.specs.Table.{storeys};
 ghost use Rattle.survey.specs.Judgement.{judging};
 ghost use Rattle.survey.specs.Walls.{storeyWalls};
 ghost use Rattle.diagnosis.specs.House.{share, inDirection, solidAtEnd, requiredOf};
-ghost use Rattle.diagnosis.specs.Internal.{heldBy, storeyHeld};
+ghost use Rattle.diagnosis.specs.Internal.{withWall, storeyHeld};
 
 // The type of a solid wall.
 const SOLID: u32 = 1;
@@ -42,38 +42,38 @@ pub struct StoreyHeld {
     pub y: Held,
 }
 
-// What a wall counts, by its row among its storey's walls.
-fn share(table: &[u32], storey: u32, walls: &[u32], row: usize) -> u64
-    ensures { λ r. ⌜ r ≡ share (now (table .entry)) storey (now (walls .entry)) row ⌝ }
+// What a wall counts, by its row.
+fn share(table: &[u32], storey: u32, wall: &[u32]) -> u64
+    ensures { λ r. ⌜ r ≡ share (now (table .entry)) storey (now (wall .entry)) 0 ⌝ }
 {
     wall_share(
         cell(table, 0, STOREYS),
         storey,
         cell(table, 0, FOUNDATION),
-        cell(walls, row, WALL_TYPE),
-        cell(walls, row, JOINT),
-        cell(walls, row, STRENGTH),
-        cell(walls, row, LENGTH),
+        cell(wall, 0, WALL_TYPE),
+        cell(wall, 0, JOINT),
+        cell(wall, 0, STRENGTH),
+        cell(wall, 0, LENGTH),
     )
 }
 
 // Whether a wall stands in a direction.
-fn in_direction(walls: &[u32], direction: u32, row: usize) -> bool
-    ensures { λ r. ⌜ r ≡ inDirection (now (walls .entry)) direction row ⌝ }
+fn in_direction(wall: &[u32], direction: u32) -> bool
+    ensures { λ r. ⌜ r ≡ inDirection (now (wall .entry)) direction 0 ⌝ }
 {
-    cell(walls, row, DIRECTION) == direction
+    cell(wall, 0, DIRECTION) == direction
 }
 
 // Whether a wall is solid and stands in a direction at an end, 0 for end a and 1 for end b. Its numbers
 // are read before they are tested, so that the tests need no jumps: walls come in no order, and a jump
 // would often be guessed wrong.
-fn solid_at_end(walls: &[u32], direction: u32, end: u32, row: usize) -> bool
+fn solid_at_end(wall: &[u32], direction: u32, end: u32) -> bool
     requires { ⌜ end ≤ 1 ⌝ }
-    ensures { λ r. ⌜ r ≡ solidAtEnd (now (walls .entry)) direction end row ⌝ }
+    ensures { λ r. ⌜ r ≡ solidAtEnd (now (wall .entry)) direction end 0 ⌝ }
 {
-    let stands_in = cell(walls, row, DIRECTION);
-    let walltype = cell(walls, row, WALL_TYPE);
-    let place = cell(walls, row, PLACE);
+    let stands_in = cell(wall, 0, DIRECTION);
+    let walltype = cell(wall, 0, WALL_TYPE);
+    let place = cell(wall, 0, PLACE);
     if stands_in != direction {
         return false;
     }
@@ -94,25 +94,15 @@ fn added(takes: bool, counted: u64) -> u64
 }
 
 // The sums of a direction with one wall more, which counts so much. Openings count towards the whole alone.
-fn with_wall(
-    table: &[u32],
-    storey: u32,
-    walls: &[u32],
-    direction: u32,
-    row: usize,
-    counted: u64,
-    sums: Held,
-) -> Held
-    requires length { ⌜ cell (now walls) row 5 ≤ 20000 ⌝ }
-    requires counted { ⌜ counted ≡ share (now table) storey (now walls) row ⌝ }
-    requires most { ⌜ (sums .all ≤ mostHeld) × (sums .a ≤ mostHeld) × (sums .b ≤ mostHeld) ⌝ }
-    requires sums { ⌜ sums ≡ heldBy (now table) storey (now walls) direction row ⌝ }
-    ensures { λ r. ⌜ r ≡ heldBy (now (table .entry)) storey (now (walls .entry)) direction (row + 1) ⌝ }
+fn with_wall(wall: &[u32], direction: u32, counted: u64, sums: Held) -> Held
+    requires counted { ⌜ counted ≤ mostHeld ⌝ }
+    requires sums { ⌜ (sums .all ≤ mostHeld) × (sums .a ≤ mostHeld) × (sums .b ≤ mostHeld) ⌝ }
+    ensures { λ r. ⌜ r ≡ withWall (now (wall .entry)) direction counted sums ⌝ }
 {
     Held {
-        all: sums.all + added(in_direction(walls, direction, row), counted),
-        a: sums.a + added(solid_at_end(walls, direction, 0, row), counted),
-        b: sums.b + added(solid_at_end(walls, direction, 1, row), counted),
+        all: sums.all + added(in_direction(wall, direction), counted),
+        a: sums.a + added(solid_at_end(wall, direction, 0), counted),
+        b: sums.b + added(solid_at_end(wall, direction, 1), counted),
     }
 }
 
@@ -128,9 +118,11 @@ pub(crate) fn held_by(table: &[u32], storey: u32, walls: &[u32]) -> StoreyHeld
     let mut y = Held { all: 0, a: 0, b: 0 };
     let mut row = 0;
     while row < rows {
-        let counted = share(table, storey, walls, row);
-        x = with_wall(table, storey, walls, 1, row, counted, x);
-        y = with_wall(table, storey, walls, 2, row, counted, y);
+        let from = ROW * row;
+        let wall = &walls[from..from + ROW];
+        let counted = share(table, storey, wall);
+        x = with_wall(wall, 1, counted, x);
+        y = with_wall(wall, 2, counted, y);
         row += 1;
     }
     StoreyHeld { x, y }

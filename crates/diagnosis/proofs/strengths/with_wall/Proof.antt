@@ -7,13 +7,12 @@ use mir.Val.{Fits}
 use mir.Syntax.{w64}
 use borrow.Author.Needs.{needs}
 use Rattle.method.specs.Held.{mostHeld}
-use Rattle.method.proofs.Shares.{mostShare}
-use Rattle.diagnosis.proofs.Sums.{added-most, share-at-most, wall-more}
+use Rattle.diagnosis.proofs.Sums.{added-most}
 use Rattle.diagnosis.proofs.strengths.with_wall.Statement.{statement}
 use Rattle.diagnosis.proofs.strengths.with_wall.Tie as tie
 
 -- A sum that is within what is held has room for a wall more.
-room : {sum more counted : ℕ} (takes : Bool) → sum ≤ mostHeld → counted ≤ mostShare → more ≡ cond takes counted 0 → Fits w64 (sum + more)
+room : {sum more counted : ℕ} (takes : Bool) → sum ≤ mostHeld → counted ≤ mostHeld → more ≡ cond takes counted 0 → Fits w64 (sum + more)
 room takes most small e = omega (arith, rw (← e) at (added-most takes small))
 
 in-direction-requires : tie.Need-in-direction-requires
@@ -22,11 +21,10 @@ in-direction-requires c κs = search needs
 added-requires : tie.Need-added-requires
 added-requires c κs = search needs
 
-add-t10 : tie.Need-add-t10
-add-t10 c =
-    let start = c .before .before .before .before .before in
-    let small : start .args .counted ≤ mostShare = rw (start .pre .1 .0) (share-at-most _ _ _ _ (start .pre .0)) in
-    room (c .before .before .in-direction .result) (start .pre .1 .1 .0 .0) small (c .before .added .ensures)
+add-t7 : tie.Need-add-t7
+add-t7 c =
+    let start = c .before .before .before .before in
+    room (c .before .before .in-direction .result) (start .pre .1 .0) (start .pre .0) (c .before .added .ensures)
 
 solid-at-end-requires : tie.Need-solid-at-end-requires
 solid-at-end-requires c κs = search needs
@@ -34,11 +32,10 @@ solid-at-end-requires c κs = search needs
 added-requires-2 : tie.Need-added-requires-2
 added-requires-2 c κs = search needs
 
-add-t13 : tie.Need-add-t13
-add-t13 c =
-    let start = c .before .before .before .before .before .before .before .before in
-    let small : start .args .counted ≤ mostShare = rw (start .pre .1 .0) (share-at-most _ _ _ _ (start .pre .0)) in
-    room (c .before .before .solid-at-end .result) (start .pre .1 .1 .0 .1) small (c .before .added2 .ensures)
+add-t10 : tie.Need-add-t10
+add-t10 c =
+    let start = c .before .before .before .before .before .before .before in
+    room (c .before .before .solid-at-end .result) (start .pre .1 .1) (start .pre .0) (c .before .added2 .ensures)
 
 solid-at-end-requires-2 : tie.Need-solid-at-end-requires-2
 solid-at-end-requires-2 c κs = search needs
@@ -46,23 +43,24 @@ solid-at-end-requires-2 c κs = search needs
 added-requires-3 : tie.Need-added-requires-3
 added-requires-3 c κs = search needs
 
-add-t16 : tie.Need-add-t16
-add-t16 c =
-    let start = c .before .before .before .before .before .before .before .before .before .before .before in
-    let small : start .args .counted ≤ mostShare = rw (start .pre .1 .0) (share-at-most _ _ _ _ (start .pre .0)) in
-    room (c .before .before .solid-at-end2 .result) (start .pre .1 .1 .0 .2) small (c .before .added3 .ensures)
+add-t13 : tie.Need-add-t13
+add-t13 c =
+    let start = c .before .before .before .before .before .before .before .before .before .before in
+    room (c .before .before .solid-at-end2 .result) (start .pre .1 .2) (start .pre .0) (c .before .added3 .ensures)
 
 returns : tie.Need-returns
 returns c =
     let at-b = c .before in
     let at-a = at-b .before .before .before in
     let at-all = at-a .before .before .before in
-    let start = at-all .before .before .before .before in
-    let wall = start .pre .1 .0 in
-    wall-more _ _ _ _ (start .args .row) (start .pre .1 .1 .1)
-    (rw (← wall, ← at-all .before .in-direction .ensures) (at-all .added .ensures))
-    (rw (← wall, ← at-a .before .solid-at-end .ensures) (at-a .added2 .ensures))
-    (rw (← wall, ← at-b .before .solid-at-end2 .ensures) (at-b .added3 .ensures))
+    rw (
+      ← at-all .before .in-direction .ensures,
+      ← at-a .before .solid-at-end .ensures,
+      ← at-b .before .solid-at-end2 .ensures,
+      at-all .added .ensures,
+      at-a .added2 .ensures,
+      at-b .added3 .ensures,
+    )
 
 pub with-wall-spec : {M : Type 1} → statement M
 with-wall-spec =
@@ -70,11 +68,11 @@ with-wall-spec =
     (tie.spec
     in-direction-requires
     added-requires
-    add-t10
+    add-t7
     solid-at-end-requires
     added-requires-2
-    add-t13
+    add-t10
     solid-at-end-requires-2
     added-requires-3
-    add-t16
+    add-t13
     returns)
