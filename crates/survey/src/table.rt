@@ -4,9 +4,8 @@ use answer::ROW;
 ghost use mathlib.Core.Path.{_≡_};
 ghost use Rattle.survey.specs.Table.{cell, isWall};
 
-// The number in a row and a column, both from 0; 0 beyond the table. Any table, row and column will do,
-// so that no caller has to show that a place lies in the table.
-pub fn cell(table: &[u32], row: usize, column: usize) -> u32
+// The number in any row and column, both from 0; 0 beyond the table.
+fn any_cell(table: &[u32], row: usize, column: usize) -> u32
     ensures { λ r. ⌜ r ≡ cell (now (table .entry)) row column ⌝ }
 {
     if table.len() / ROW < row {
@@ -17,6 +16,20 @@ pub fn cell(table: &[u32], row: usize, column: usize) -> u32
         return 0;
     }
     table[from + column]
+}
+
+// The number in a row and a column, both from 0; 0 beyond the table. Any table, row and column will do,
+// so that no caller has to show that a place lies in the table. A column of a whole row is read first:
+// in a loop over rows, and for a column with a name, the compiler then sees that both tests hold.
+pub fn cell(table: &[u32], row: usize, column: usize) -> u32
+    ensures { λ r. ⌜ r ≡ cell (now (table .entry)) row column ⌝ }
+{
+    if row < table.len() / ROW {
+        if column < ROW {
+            return table[ROW * row + column];
+        }
+    }
+    any_cell(table, row, column)
 }
 
 // Whether a row is a wall's.

@@ -1,11 +1,11 @@
--- `survey::table::cell` meets its contract: beyond the table, and in it. Assumes nothing.
+-- `survey::table::any_cell` meets its contract: beyond the table, and in it. Assumes nothing.
 use mathlib.Core.Path.{sym}
 use native.Mathlib.Omega.{arith}
 use denote.Ref.{now}
 use borrow.Author.Needs.{needs}
 use Rattle.survey.proofs.Positions.{beyond}
-use Rattle.survey.proofs.table.cell.Statement.{statement}
-use Rattle.survey.proofs.table.cell.Tie as tie
+use Rattle.survey.proofs.table.any_cell.Statement.{statement}
+use Rattle.survey.proofs.table.any_cell.Tie as tie
 
 returns : tie.Need-returns
 returns c =
@@ -35,8 +35,8 @@ shared-slice-read-result c = search needs
 returns-3 : tie.Need-returns-3
 returns-3 c = search needs
 
-pub cell-spec : {M : Type 1} → statement M
-cell-spec =
+pub any-cell-spec : {M : Type 1} → statement M
+any-cell-spec =
     tie.close
     (tie.spec
     returns
