@@ -16,7 +16,7 @@ use Rattle.survey.specs.Table.{wallRows}
 use Rattle.survey.specs.Ranges as ranges
 use Rattle.survey.specs.Judgement.{_then_, test, outside, leftmost, wrongColumn, houseFault, storeyFault, endsFault, storeyBefore, wallFault, within, partsFault, rowFault, judging}
 use Rattle.survey.specs.Walls.{rowsFrom, rowsWhere, isWallOf, storeyWalls}
-use Rattle.survey.proofs.Examples.{p1-judged}
+use Rattle.survey.proofs.Examples.{p1-judged, zones-known}
 use Rattle.method.specs.Printed.{nth}
 use Rattle.method.specs.Held.{position, foundationUsed, sharedRow, entry, interpolated, rowFactor, jointFactor, solidShare, openingShare, wallShare, heldStrength}
 use Rattle.method.specs.Required.{topLine, constant, groundFactor, narrowFactor, requiredStrength}
@@ -44,10 +44,6 @@ p1-table = refl
 -- A zone that a house may have, by which P10's are accepted.
 abbrev pub Known : ℕ → Type 0
 Known zone = ranges.zone zone ≡ zone
-
-pub zones-known : Known 90 × Known 100
-unfolding ranges.zone
-zones-known = (refl, refl)
 
 pub p10-judged : (zone : ℕ) → Known zone → judging (p10 zone) ≡ counted 10
 unfolding judging rowsIn first rowFault houseFault storeyFault endsFault wallFault partsFault wallRows ranges.zone storeyBefore within wrongColumn leftmost outside test _then_
@@ -102,7 +98,7 @@ p10Numbers zone = scoreBefore (p10 zone) 1 1 ∷ fullScore (p10 zone) 1 1 ∷ hi
 
 pub p10-rises : (p10Numbers 90 ≡ 16 ∷ 11 ∷ 1 ∷ []) × (p10Numbers 100 ≡ 14 ∷ 14 ∷ 0 ∷ [])
 unfolding p1-scores
-p10-rises = (rw (p10-walls 90 (zones-known .0)), rw (p10-walls 100 (zones-known .1)))
+p10-rises = (rw (p10-walls 90 (zones-known .2)), rw (p10-walls 100 (zones-known .3)))
 
 -- Document 01's small table in one statement over the definitions: P1 from its sheet to what is printed, with the count of bytes; P2 to P9 and
 -- P11 on plain numbers; P10 in zones 90 and 100.

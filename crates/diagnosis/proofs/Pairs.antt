@@ -13,12 +13,13 @@ use Rattle.answer.specs.Told.{Told, counted}
 use Rattle.answer.specs.First.{first}
 use Rattle.survey.specs.Table.{cell, wallRows}
 use Rattle.survey.specs.Judgement.{within, judging}
+use Rattle.survey.proofs.Examples.{zones-known}
 use Rattle.survey.proofs.Positions.{beyond}
 use Rattle.method.proofs.Tables.{everyBelow, at-every}
 use Rattle.diagnosis.specs.House.{marked, fullScore}
 use Rattle.diagnosis.specs.Comparison.{mayDiffer, NoLower, Worse, InHouse, Kept, Applies}
 use Rattle.diagnosis.specs.Worked.{p10, sound, heavy, zone100, softGround, overTen, moreMarks, allWorse, figures, sameBands}
-use Rattle.diagnosis.proofs.Examples.{zones-known, p10-judged, p10-rises, two-judged, sound-figures, heavy-figures, zone-figures, soft-ground-figures, over-ten-figures, more-marks-figures, all-worse-figures}
+use Rattle.diagnosis.proofs.Examples.{p10-judged, p10-rises, two-judged, sound-figures, heavy-figures, zone-figures, soft-ground-figures, over-ten-figures, more-marks-figures, all-worse-figures}
 
 -- Whether the first rows of two tables, so many, hold equal numbers wherever they may not differ.
 alike : List ℕ → List ℕ → ℕ → Bool
@@ -54,7 +55,7 @@ module _
 pub p10-worse : Worse (p10 90) (p10 100)
 unfolding alike everyBelow mayDiffer wallRows first within
 p10-worse =
-    made-worse (p10 90) (p10 100) 10 (p10-judged 90 (zones-known .0)) (p10-judged 100 (zones-known .1)) refl refl refl
+    made-worse (p10 90) (p10 100) 10 (p10-judged 90 (zones-known .2)) (p10-judged 100 (zones-known .3)) refl refl refl
     (record { heavier = omega arith; higher = omega arith; softer = omega arith; older = omega arith }) refl
 
 p10-scores : (fullScore (p10 90) 1 1 ≡ 11) × (fullScore (p10 100) 1 1 ≡ 14)
