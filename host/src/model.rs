@@ -1,6 +1,6 @@
 //! Document 01 as a program, a file for each of its sections.
 //!
-//! It is written from the paper alone, so that it is a second reading of it, independent of the proved one.
+//! It shares no code and no table with the proved library, so that the two can be compared.
 
 pub mod deterioration;
 pub mod held;
