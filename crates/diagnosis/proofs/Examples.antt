@@ -3,11 +3,12 @@ use mathlib.Core.Path.{_≡_, refl, ap}
 use mathlib.Core.List.{List, [], _∷_}
 use Prim.Native.Nat.{ℕ}
 use native.Mathlib.Nat.{le-refl}
-use lib.ListN.{getD, replicate}
+use lib.ListN.{getD, take, replicate}
 use borrow.Author.Tests.{le-ltb}
-use Rattle.answer.specs.Told.{counted}
+use Rattle.answer.specs.Told.{counted, refusal}
 use Rattle.answer.specs.First.{first}
 use Rattle.answer.specs.Length.{rowsIn}
+use Rattle.answer.specs.Text.{bytes}
 use Rattle.answer.specs.Houses.{p1Sheet, p1, twoStoreys}
 use Rattle.sheet.specs.Field.{digitAfter, after, field, isNumber, value, digitOrSpace, printed}
 use Rattle.sheet.specs.Line.{joined, part, line}
@@ -28,7 +29,7 @@ use Rattle.method.proofs.Examples.{worked-out}
 use Rattle.diagnosis.specs.House.{share, sharesWhere, heldWhere, inDirection, solidAtEnd, held, endHeld, requiredOf, required, endRequired, endBand, higherBand, storeyFloorType, layout, deterioration, scoreBefore, fullScore, scores, leastOf, leastScore, houseVerdict}
 use Rattle.diagnosis.specs.Answers.{recordOf}
 use Rattle.diagnosis.specs.Comparison.{scoreAt}
-use Rattle.diagnosis.specs.Report.{resultRows, reportRows, reportBytes, reporting}
+use Rattle.diagnosis.specs.Report.{resultRows, reportRows, reportBytes, reporting, refusalLine}
 use Rattle.diagnosis.specs.Program.{mostNumbers, tableOf, diagnosing, afterDiagnosing, mostReportBytes, output}
 use Rattle.diagnosis.specs.Worked.{p1Report, p10, sound, heavy, zone100, softGround, overTen, moreMarks, allWorse, figures, sameBands}
 
@@ -91,6 +92,23 @@ p1-after = rw (p1-diagnosed, p1-table, p1-printed)
 p1-output : output p1Sheet ≡ p1Report
 unfolding output
 p1-output = rw (p1-answered, p1-table, p1-printed)
+
+-- P1's first line alone ends early, so the program prints the line of refusal 3 at row 2, column 1.
+refused-read : reading (take 65 p1Sheet) mostNumbers ≡ counted 1
+unfolding p1-read
+refused-read = refl
+
+refused-judged : judging (tableOf (take 65 p1Sheet)) ≡ refusal 3 2 1
+unfolding p1-table judging rowsIn first rowFault houseFault ranges.zone wrongColumn leftmost outside test _then_ wallRows
+refused-judged = refl
+
+refused-answered : diagnosing (take 65 p1Sheet) mostReportBytes ≡ refusal 3 2 1
+unfolding diagnosing reporting
+refused-answered = rw (refused-read, refused-judged)
+
+pub refused-output : output (take 65 p1Sheet) ≡ bytes "       0       3       2       1       0       0       0       0\n"
+unfolding output refusalLine line joined printed digitOrSpace
+refused-output = rw refused-answered
 
 -- P10's scores before the layout factor, its full scores, and its higher bands in X: the better end falls from B to A.
 abbrev pub p10Numbers : ℕ → List ℕ

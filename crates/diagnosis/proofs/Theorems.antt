@@ -4,11 +4,12 @@ use mathlib.Core.Path.{_≡_}
 use mathlib.Core.List.{List, [], _∷_}
 use Prim.Native.Nat.{ℕ, _*_, _<_, _≤_}
 use native.Mathlib.Omega.{arith}
-use lib.ListN.{length, getD, replicate}
+use lib.ListN.{length, getD, take, replicate}
 use lib.Dec.{eqb}
 use Rattle.answer.specs.declared.Answer.{Answer}
 use Rattle.answer.specs.declared.Answer.the-variants.{Count}
 use Rattle.answer.specs.Told.{told, counted, lent-space-short}
+use Rattle.answer.specs.Text.{bytes}
 use Rattle.answer.specs.Houses.{p1Sheet}
 use Rattle.sheet.specs.Sheet.{over, writing, afterWriting}
 use Rattle.survey.specs.Judgement.{judging}
@@ -71,6 +72,10 @@ output-never-short sheet e = omega (arith, program.short-only sheet mostReportBy
 
 pub output-most : (sheet : List ℕ) → length (output sheet) ≤ mostReportBytes
 output-most = program.output-most
+
+-- P1's first line alone ends early: the one line of its refusal, 3 at row 2, column 1, is printed.
+pub refused-output : output (take 65 p1Sheet) ≡ bytes "       0       3       2       1       0       0       0       0\n"
+refused-output = examples.refused-output
 
 -- Demand 3
 

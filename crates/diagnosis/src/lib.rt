@@ -1,11 +1,11 @@
-// Scoring a table, its report, and the whole program on slices.
+// Scoring a table, its report, the whole program on slices, and what it prints.
 //
 // Uses `answer`, `sheet`, `survey` and `method`. Document 01, "Held strength" to "Score and verdict", of
 // a table's house; the definitions stand in specs/House.antt, Answers.antt, Report.antt and
 // Program.antt, in that order. Strengths and assessment work out a storey and direction by `method`'s
 // functions; scores, reports and program are what callers call. A table is judged once, by `survey`,
-// before any number of it is used. The comparison of two houses is stated in specs/Comparison.antt and
-// proved in proofs/Comparing.antt.
+// before any number of it is used. The comparison of two houses is stated in specs/Comparison.antt. The
+// theorems are in proofs/Theorems.antt.
 mod assessment;
 mod program;
 mod reports;

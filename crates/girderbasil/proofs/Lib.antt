@@ -1,2 +1,2 @@
--- The law about answers that cross to a host.
-pub mod Hosted
+-- The laws about answers that cross to a host.
+pub mod HostAnswers

@@ -4,7 +4,7 @@
 // factor" (layout), "Deterioration factor" (deterioration) and "Score and verdict" (scores); the
 // definitions stand in specs/, a file a section. 000's tables are const arrays in the module that
 // uses them. Every function open to callers takes any numbers, and a definition says what it
-// answers. The laws for comparing two houses are in proofs/.
+// answers. The theorems, the laws for comparing two houses among them, are in proofs/Theorems.antt.
 mod deterioration;
 mod held;
 mod joints;

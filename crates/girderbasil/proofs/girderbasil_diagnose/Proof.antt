@@ -3,7 +3,7 @@ use native.Mathlib.Omega.{arith}
 use denote.Ref.{now}
 use borrow.Author.Needs.{needs}
 use Rattle.diagnosis.proofs.Reporting.{output-most}
-use Rattle.girderbasil.proofs.Hosted.{output-crosses}
+use Rattle.girderbasil.proofs.HostAnswers.{output-crosses}
 use Rattle.girderbasil.proofs.girderbasil_diagnose.Statement.{statement}
 use Rattle.girderbasil.proofs.girderbasil_diagnose.Tie as tie
 

@@ -1,6 +1,6 @@
 -- `girderbasil::girderbasil_score` meets its contract: each outcome by itself. Assumes nothing.
 use mathlib.Core.Path.{_∙_}
-use Rattle.girderbasil.proofs.Hosted.{refused-crosses}
+use Rattle.girderbasil.proofs.HostAnswers.{refused-crosses}
 use borrow.Author.Needs.{needs}
 use Rattle.girderbasil.proofs.girderbasil_score.Statement.{statement}
 use Rattle.girderbasil.proofs.girderbasil_score.Tie as tie
