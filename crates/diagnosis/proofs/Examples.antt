@@ -142,38 +142,38 @@ module _ (weight zone ground age marked : ℕ) (accepted : Judged (twoStoreys we
   unfolding p1-walls
   walls = (rw accepted, rw accepted)
 
-pub sound-figures : figures sound ≡ (101 ∷ 200 ∷ 262 ∷ 187 ∷ []) ∷ sameBands ∷ []
+pub sound-figures : figures sound ≡ (131 ∷ 200 ∷ 262 ∷ 187 ∷ []) ∷ (188 ∷ 200 ∷ 262 ∷ 187 ∷ []) ∷ sameBands ∷ []
 unfolding p1-scores
 sound-figures = rw (walls 1 90 1 1 2048 (two-judged .0) .0, walls 1 90 1 1 2048 (two-judged .0) .1)
 
-pub heavy-figures : figures heavy ≡ (79 ∷ 157 ∷ 183 ∷ 131 ∷ []) ∷ sameBands ∷ []
+pub heavy-figures : figures heavy ≡ (103 ∷ 157 ∷ 183 ∷ 131 ∷ []) ∷ (147 ∷ 157 ∷ 183 ∷ 131 ∷ []) ∷ sameBands ∷ []
 unfolding p1-scores
 heavy-figures = rw (walls 2 90 1 1 2048 (two-judged .1) .0, walls 2 90 1 1 2048 (two-judged .1) .1)
 
-pub zone-figures : figures zone100 ≡ (91 ∷ 180 ∷ 236 ∷ 168 ∷ []) ∷ sameBands ∷ []
+pub zone-figures : figures zone100 ≡ (118 ∷ 180 ∷ 236 ∷ 168 ∷ []) ∷ (169 ∷ 180 ∷ 236 ∷ 168 ∷ []) ∷ sameBands ∷ []
 unfolding p1-scores
 zone-figures = rw (walls 1 100 1 1 2048 (two-judged .2) .0, walls 1 100 1 1 2048 (two-judged .2) .1)
 
-pub soft-ground-figures : figures softGround ≡ (67 ∷ 133 ∷ 175 ∷ 125 ∷ []) ∷ sameBands ∷ []
+pub soft-ground-figures : figures softGround ≡ (87 ∷ 133 ∷ 175 ∷ 125 ∷ []) ∷ (125 ∷ 133 ∷ 175 ∷ 125 ∷ []) ∷ sameBands ∷ []
 unfolding p1-scores
 soft-ground-figures = rw (walls 1 90 2 1 2048 (two-judged .3) .0, walls 1 90 2 1 2048 (two-judged .3) .1)
 
-pub over-ten-figures : figures overTen ≡ (97 ∷ 192 ∷ 251 ∷ 179 ∷ []) ∷ sameBands ∷ []
+pub over-ten-figures : figures overTen ≡ (126 ∷ 192 ∷ 251 ∷ 179 ∷ []) ∷ (180 ∷ 192 ∷ 251 ∷ 179 ∷ []) ∷ sameBands ∷ []
 unfolding p1-scores
 over-ten-figures = rw (walls 1 90 1 2 2048 (two-judged .4) .0, walls 1 90 1 2 2048 (two-judged .4) .1)
 
-pub more-marks-figures : figures moreMarks ≡ (80 ∷ 158 ∷ 208 ∷ 148 ∷ []) ∷ sameBands ∷ []
+pub more-marks-figures : figures moreMarks ≡ (104 ∷ 158 ∷ 208 ∷ 148 ∷ []) ∷ (149 ∷ 158 ∷ 208 ∷ 148 ∷ []) ∷ sameBands ∷ []
 unfolding p1-scores
 more-marks-figures = rw (walls 1 90 1 1 2056 (two-judged .5) .0, walls 1 90 1 1 2056 (two-judged .5) .1)
 
-pub all-worse-figures : figures allWorse ≡ (37 ∷ 74 ∷ 87 ∷ 62 ∷ []) ∷ sameBands ∷ []
+pub all-worse-figures : figures allWorse ≡ (38 ∷ 74 ∷ 87 ∷ 62 ∷ []) ∷ (70 ∷ 74 ∷ 87 ∷ 62 ∷ []) ∷ sameBands ∷ []
 unfolding p1-scores
 all-worse-figures = rw (walls 2 100 2 2 2056 (two-judged .6) .0, walls 2 100 2 2 2056 (two-judged .6) .1)
 
 -- The records of the best and the worst of them, and where a record has the score of a storey and direction.
 pub worsened-records :
-    (recordOf sound ≡ record { scores = 101 ∷ 200 ∷ 262 ∷ 187 ∷ 0 ∷ 0 ∷ []; count = 4; verdict = 2 })
-    × (recordOf allWorse ≡ record { scores = 37 ∷ 74 ∷ 87 ∷ 62 ∷ 0 ∷ 0 ∷ []; count = 4; verdict = 4 })
+    (recordOf sound ≡ record { scores = 131 ∷ 200 ∷ 262 ∷ 187 ∷ 0 ∷ 0 ∷ []; count = 4; verdict = 2 })
+    × (recordOf allWorse ≡ record { scores = 38 ∷ 74 ∷ 87 ∷ 62 ∷ 0 ∷ 0 ∷ []; count = 4; verdict = 4 })
     × (_≡_ {A = List ℕ} (scoreAt 1 1 ∷ scoreAt 1 2 ∷ scoreAt 2 1 ∷ scoreAt 2 2 ∷ scoreAt 3 1 ∷ scoreAt 3 2 ∷ []) (0 ∷ 1 ∷ 2 ∷ 3 ∷ 4 ∷ 5 ∷ []))
 unfolding recordOf over houseVerdict leastScore leastOf verdict
 worsened-records =

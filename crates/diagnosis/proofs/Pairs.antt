@@ -1,5 +1,5 @@
--- Two pairs of houses that demand 3 compares: P10's, whose score rises without the premise on bands, and one to which all of the theorem
--- applies. By computation. Assumes nothing.
+-- Pairs of houses that demand 3 compares: P10's, whose score rises without the premise on bands, and those to which all of the theorem applies.
+-- By computation. Assumes nothing.
 use mathlib.Core.Path.{_≡_, refl, sym, ap, _∙_}
 use mathlib.Core.Bool.{Bool, true, false, _||_}
 use mathlib.Core.List.{List, [], _∷_}
@@ -16,9 +16,10 @@ use Rattle.survey.specs.Judgement.{within, judging}
 use Rattle.survey.proofs.Examples.{zones-known}
 use Rattle.survey.proofs.Positions.{beyond}
 use Rattle.method.proofs.Tables.{everyBelow, at-every}
-use Rattle.diagnosis.specs.House.{marked, fullScore}
+use Rattle.diagnosis.specs.House.{marked, fullScore, houseVerdict}
 use Rattle.diagnosis.specs.Comparison.{mayDiffer, NoLower, Worse, InHouse, Kept, Applies}
 use Rattle.diagnosis.specs.Worked.{p10, sound, heavy, zone100, softGround, overTen, moreMarks, allWorse, figures, sameBands}
+use Rattle.diagnosis.proofs.Comparing.{comparison}
 use Rattle.diagnosis.proofs.Examples.{p10-judged, p10-rises, two-judged, sound-figures, heavy-figures, zone-figures, soft-ground-figures, over-ten-figures, more-marks-figures, all-worse-figures}
 
 -- Whether the first rows of two tables, so many, hold equal numbers wherever they may not differ.
@@ -77,11 +78,11 @@ one-or-two P one two (suc (suc (suc n))) some most = absurd (omega arith)
 
 -- The sound house of two storeys made worse, with the same bands of its better ends.
 module _
-    (B : List ℕ) (accepted : judging B ≡ counted 14) (long : length B ≡ 112) (passed : alike sound B 14 ≡ true) {scored : List ℕ}
-    (b : figures B ≡ scored ∷ sameBands ∷ [])
+    (B : List ℕ) (accepted : judging B ≡ counted 14) (long : length B ≡ 112) (passed : alike sound B 14 ≡ true) {scored before : List ℕ}
+    (b : figures B ≡ scored ∷ before ∷ sameBands ∷ [])
   where
-    band-same : (i : ℕ) → getD (getD (figures B) 1 []) i 0 ≡ getD (getD (figures sound) 1 []) i 0
-    band-same i = ap (λ (l : List (List ℕ)). getD (getD l 1 []) i 0) b ∙ sym (ap (λ (l : List (List ℕ)). getD (getD l 1 []) i 0) sound-figures)
+    band-same : (i : ℕ) → getD (getD (figures B) 2 []) i 0 ≡ getD (getD (figures sound) 2 []) i 0
+    band-same i = ap (λ (l : List (List ℕ)). getD (getD l 2 []) i 0) b ∙ sym (ap (λ (l : List (List ℕ)). getD (getD l 2 []) i 0) sound-figures)
 
     applies : NoLower sound B → within (marked sound) (marked B) ≡ true → Applies sound B
     applies no-lower marks = record {
@@ -106,3 +107,7 @@ worsened = (
   applies moreMarks (two-judged .5) refl refl more-marks-figures (record { heavier = omega arith; higher = omega arith; softer = omega arith; older = omega arith }) refl,
   applies allWorse (two-judged .6) refl refl all-worse-figures (record { heavier = omega arith; higher = omega arith; softer = omega arith; older = omega arith }) refl,
 )
+
+-- So by the theorem the verdict of the worst of them is no better.
+pub worsened-verdict : houseVerdict sound ≤ houseVerdict allWorse
+worsened-verdict = comparison sound allWorse (worsened .5 .worse) .verdict (worsened .5 .kept)

@@ -1,6 +1,7 @@
 -- The theorems about a house's diagnosis, in the order of document 01. Each is proved where it is cited from; the words of its statement are
 -- defined in specs/. Assumes nothing.
 use mathlib.Core.Path.{_≡_}
+use mathlib.Core.Bool.{true, false}
 use mathlib.Core.List.{List, [], _∷_}
 use Prim.Native.Nat.{ℕ, _*_, _<_, _≤_}
 use native.Mathlib.Omega.{arith}
@@ -12,13 +13,15 @@ use Rattle.answer.specs.Told.{told, counted, lent-space-short}
 use Rattle.answer.specs.Text.{bytes}
 use Rattle.answer.specs.Houses.{p1Sheet}
 use Rattle.sheet.specs.Sheet.{over, writing, afterWriting}
-use Rattle.survey.specs.Judgement.{judging}
+use Rattle.survey.specs.Table.{cell, storeys}
+use Rattle.survey.specs.Judgement.{judging, within}
 use Rattle.method.specs.Worked.{worked, expected}
-use Rattle.diagnosis.specs.House.{higherBand, scoreBefore, fullScore, leastScore}
-use Rattle.diagnosis.specs.Answers.{recordOf, scoring}
+use Rattle.diagnosis.specs.declared.scores.Scoring.{Scoring}
+use Rattle.diagnosis.specs.House.{weight, zone, ground, age, marked, higherBand, scoreBefore, fullScore, leastScore, houseVerdict}
+use Rattle.diagnosis.specs.Answers.{toldScoring, recordOf, scoring}
 use Rattle.diagnosis.specs.Report.{reportRows, reportLines, reportBytes}
 use Rattle.diagnosis.specs.Program.{tableOf, diagnosing, afterDiagnosing, mostReportBytes, output}
-use Rattle.diagnosis.specs.Comparison.{Worse, InHouse, scoreAt, NoBetter, Applies}
+use Rattle.diagnosis.specs.Comparison.{mayDiffer, NoLower, Worse, InHouse, Kept, scoreAt, NoBetter, Applies}
 use Rattle.diagnosis.specs.Worked.{p1Report, p10, sound, heavy, zone100, softGround, overTen, moreMarks, allWorse, figures, sameBands}
 use Rattle.diagnosis.proofs.ScoreLists as score-lists
 use Rattle.diagnosis.proofs.ReportNumbers as report-numbers
@@ -83,20 +86,50 @@ refused-output = examples.refused-output
 pub comparison : (A B : List ℕ) → Worse A B → NoBetter A B
 comparison = comparing.comparison
 
+-- The same with nothing left to a record: the premises are document 01's one by one, and the conclusions those of demand 3.
+pub comparison-in-full : (A B : List ℕ)
+    → judging A .number ≡ 0 → judging B .number ≡ 0 → length A ≡ length B
+    → ((row column : ℕ) → column < 8 → mayDiffer A row column ≡ false → cell A row column ≡ cell B row column)
+    → weight A ≤ weight B → zone A ≤ zone B → ground A ≤ ground B → age A ≤ age B → within (marked A) (marked B) ≡ true
+    → ((storey direction : ℕ) → 1 ≤ storey → storey ≤ storeys A → 1 ≤ direction → direction ≤ 2
+    → (scoreBefore B storey direction ≤ scoreBefore A storey direction)
+    × (higherBand B storey direction ≡ higherBand A storey direction → fullScore B storey direction ≤ fullScore A storey direction)
+    × ((a b : Scoring) → toldScoring a ≡ scoring A → toldScoring b ≡ scoring B → higherBand B storey direction ≡ higherBand A storey direction
+    → getD (b .result .scores) (scoreAt storey direction) 0 ≤ getD (a .result .scores) (scoreAt storey direction) 0))
+    × (((storey direction : ℕ) → 1 ≤ storey → storey ≤ storeys A → 1 ≤ direction → direction ≤ 2
+    → higherBand B storey direction ≡ higherBand A storey direction)
+    → (houseVerdict A ≤ houseVerdict B)
+    × ((a b : Scoring) → toldScoring a ≡ scoring A → toldScoring b ≡ scoring B → a .result .verdict ≤ b .result .verdict))
+comparison-in-full A B A-accepted B-accepted rows same heavier higher softer older marks =
+    let no-lower : NoLower A B = record { heavier = heavier; higher = higher; softer = softer; older = older } in
+    let worse : Worse A B = record { A-accepted = A-accepted; B-accepted = B-accepted; rows = rows; same = same; no-lower = no-lower; marks = marks } in
+    let no-better = comparison A B worse in (
+      (λ storey direction some last one two.
+          let s : InHouse A storey direction = record { some-storey = some; last-storey = last; some-direction = one; last-direction = two } in (
+            no-better .before storey direction s,
+            no-better .full storey direction s,
+            λ a b ea eb kept. no-better .record-full a b ea eb storey direction s kept,
+          )),
+      (λ kept.
+          let all : (storey direction : ℕ) → InHouse A storey direction → Kept A B storey direction =
+          λ storey direction s. kept storey direction (s .some-storey) (s .last-storey) (s .some-direction) (s .last-direction) in
+          (no-better .verdict all, λ a b ea eb. no-better .record-verdict a b ea eb all)),
+    )
+
 -- Pairs to which all of it applies. In each of the first five B is worse in one number alone; in the last in all of them.
 pub worsened :
     Applies sound heavy × Applies sound zone100 × Applies sound softGround × Applies sound overTen × Applies sound moreMarks × Applies sound allWorse
 worsened = pairs.worsened
 
--- Their scores fall.
+-- Their scores fall, with the layout factor and before it, and their better ends keep their bands.
 pub worsened-figures :
-    (figures sound ≡ (101 ∷ 200 ∷ 262 ∷ 187 ∷ []) ∷ sameBands ∷ [])
-    × (figures heavy ≡ (79 ∷ 157 ∷ 183 ∷ 131 ∷ []) ∷ sameBands ∷ [])
-    × (figures zone100 ≡ (91 ∷ 180 ∷ 236 ∷ 168 ∷ []) ∷ sameBands ∷ [])
-    × (figures softGround ≡ (67 ∷ 133 ∷ 175 ∷ 125 ∷ []) ∷ sameBands ∷ [])
-    × (figures overTen ≡ (97 ∷ 192 ∷ 251 ∷ 179 ∷ []) ∷ sameBands ∷ [])
-    × (figures moreMarks ≡ (80 ∷ 158 ∷ 208 ∷ 148 ∷ []) ∷ sameBands ∷ [])
-    × (figures allWorse ≡ (37 ∷ 74 ∷ 87 ∷ 62 ∷ []) ∷ sameBands ∷ [])
+    (figures sound ≡ (131 ∷ 200 ∷ 262 ∷ 187 ∷ []) ∷ (188 ∷ 200 ∷ 262 ∷ 187 ∷ []) ∷ sameBands ∷ [])
+    × (figures heavy ≡ (103 ∷ 157 ∷ 183 ∷ 131 ∷ []) ∷ (147 ∷ 157 ∷ 183 ∷ 131 ∷ []) ∷ sameBands ∷ [])
+    × (figures zone100 ≡ (118 ∷ 180 ∷ 236 ∷ 168 ∷ []) ∷ (169 ∷ 180 ∷ 236 ∷ 168 ∷ []) ∷ sameBands ∷ [])
+    × (figures softGround ≡ (87 ∷ 133 ∷ 175 ∷ 125 ∷ []) ∷ (125 ∷ 133 ∷ 175 ∷ 125 ∷ []) ∷ sameBands ∷ [])
+    × (figures overTen ≡ (126 ∷ 192 ∷ 251 ∷ 179 ∷ []) ∷ (180 ∷ 192 ∷ 251 ∷ 179 ∷ []) ∷ sameBands ∷ [])
+    × (figures moreMarks ≡ (104 ∷ 158 ∷ 208 ∷ 148 ∷ []) ∷ (149 ∷ 158 ∷ 208 ∷ 148 ∷ []) ∷ sameBands ∷ [])
+    × (figures allWorse ≡ (38 ∷ 74 ∷ 87 ∷ 62 ∷ []) ∷ (70 ∷ 74 ∷ 87 ∷ 62 ∷ []) ∷ sameBands ∷ [])
 worsened-figures = (
   examples.sound-figures,
   examples.heavy-figures,
@@ -107,12 +140,15 @@ worsened-figures = (
   examples.all-worse-figures,
 )
 
--- So does the verdict's record, from 2 to 4; and these are the places of a record.
+-- The verdict goes from 2 to 4, as the theorem says that it gets no better. These are the places of a record.
 pub worsened-records :
-    (recordOf sound ≡ record { scores = 101 ∷ 200 ∷ 262 ∷ 187 ∷ 0 ∷ 0 ∷ []; count = 4; verdict = 2 })
-    × (recordOf allWorse ≡ record { scores = 37 ∷ 74 ∷ 87 ∷ 62 ∷ 0 ∷ 0 ∷ []; count = 4; verdict = 4 })
+    (recordOf sound ≡ record { scores = 131 ∷ 200 ∷ 262 ∷ 187 ∷ 0 ∷ 0 ∷ []; count = 4; verdict = 2 })
+    × (recordOf allWorse ≡ record { scores = 38 ∷ 74 ∷ 87 ∷ 62 ∷ 0 ∷ 0 ∷ []; count = 4; verdict = 4 })
     × (_≡_ {A = List ℕ} (scoreAt 1 1 ∷ scoreAt 1 2 ∷ scoreAt 2 1 ∷ scoreAt 2 2 ∷ scoreAt 3 1 ∷ scoreAt 3 2 ∷ []) (0 ∷ 1 ∷ 2 ∷ 3 ∷ 4 ∷ 5 ∷ []))
 worsened-records = examples.worsened-records
+
+pub worsened-verdict : houseVerdict sound ≤ houseVerdict allWorse
+worsened-verdict = pairs.worsened-verdict
 
 -- Without the premise on bands it is false: P10's house in zone 100 is the one in zone 90 made worse, and its score rises from 11 to 14.
 pub p10-worse : Worse (p10 90) (p10 100)

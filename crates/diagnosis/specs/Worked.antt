@@ -3,7 +3,7 @@ use mathlib.Core.List.{List, [], _∷_, _++_}
 use Prim.Native.Nat.{ℕ}
 use Rattle.answer.specs.Text.{bytes}
 use Rattle.answer.specs.Houses.{twoStoreys}
-use Rattle.diagnosis.specs.House.{higherBand, scores}
+use Rattle.diagnosis.specs.House.{higherBand, scoreBefore, scores}
 
 -- P1's report, the three lines that document 01 prints.
 abbrev pub p1Report : List ℕ
@@ -52,10 +52,14 @@ moreMarks = twoStoreys 1 90 1 1 2056
 abbrev pub allWorse : List ℕ
 allWorse = twoStoreys 2 100 2 2 2056
 
--- The scores of a house of two storeys, and the bands of its better ends, both storey by storey.
-abbrev pub figures : List ℕ → List (List ℕ)
-figures table = scores table ∷ (higherBand table 1 1 ∷ higherBand table 1 2 ∷ higherBand table 2 1 ∷ higherBand table 2 2 ∷ []) ∷ []
+-- Of a house of two storeys: its scores, its scores before the layout factor, and the bands of its better ends, storey by storey, X before Y.
+abbrev pub byPlace : (ℕ → ℕ → ℕ) → List ℕ
+byPlace f = f 1 1 ∷ f 1 2 ∷ f 2 1 ∷ f 2 2 ∷ []
 
--- The bands that its better ends keep: E in X and A in Y in both storeys (A to E are 0 to 4).
+abbrev pub figures : List ℕ → List (List ℕ)
+figures table = scores table ∷ byPlace (scoreBefore table) ∷ byPlace (higherBand table) ∷ []
+
+-- The bands that the better ends keep: E in X and A in Y in both storeys (A to E are 0 to 4). The lower end of the ground storey in X goes
+-- from B to A where the house is worse in all five.
 abbrev pub sameBands : List ℕ
 sameBands = 4 ∷ 0 ∷ 4 ∷ 0 ∷ []

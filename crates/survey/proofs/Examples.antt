@@ -105,7 +105,7 @@ unfolding storeyWalls rowsWhere rowsFrom isWallOf storeyRun runStart runLength f
 two-walls = (rw two-counted, refl, rw two-refused, refl)
 
 -- A run ends where another storey's wall comes: here the second of the ground storey's three is made one.
-pub run-ends : storeyRun (set (twoStoreys 1 90 1 1 2048) 65 2) 1 ≡ 4 ∷ 1 ∷ 1 ∷ 1 ∷ 50 ∷ 5000 ∷ 1 ∷ 1 ∷ []
+pub run-ends : storeyRun (set (twoStoreys 1 90 1 1 2048) 65 2) 1 ≡ 4 ∷ 1 ∷ 1 ∷ 1 ∷ 50 ∷ 11000 ∷ 1 ∷ 1 ∷ []
 unfolding two-walls
 run-ends = refl
 

@@ -96,7 +96,7 @@ pub two-walls :
 two-walls = examples.two-walls
 
 -- A run ends where another storey's wall comes: here the second of the ground storey's three is made one.
-pub run-ends : storeyRun (set (twoStoreys 1 90 1 1 2048) 65 2) 1 ≡ 4 ∷ 1 ∷ 1 ∷ 1 ∷ 50 ∷ 5000 ∷ 1 ∷ 1 ∷ []
+pub run-ends : storeyRun (set (twoStoreys 1 90 1 1 2048) 65 2) 1 ≡ 4 ∷ 1 ∷ 1 ∷ 1 ∷ 50 ∷ 11000 ∷ 1 ∷ 1 ∷ []
 run-ends = examples.run-ends
 
 -- The theorems above, where their premises hold.
