@@ -49,11 +49,11 @@ deterioration-fallen : 7 * 24 ≤ 20 * 10
 unfolding points countedMarks factorOf deteriorationFactor
 deterioration-fallen = deterioration-falls 8191 8 11 {younger = 1} {age = 2} refl (lit≤ tt)
 
--- P10's storey before the layout factor, at zone 90 and at zone 100: 16 becomes 14.
-score-before-fallen : 14 ≤ 16
+-- P10's storey at zone 90 before the layout factor, and one at zone 100 that holds less and has marks worth 4: 16 becomes 11.
+score-before-fallen : 11 ≤ 16
 unfolding score
 score-before-fallen =
-    score-before-falls {weaker = 2_340_000} {held = 2_340_000} {required = 14_400_000_000} {more = 16_000_000_000} (fraction 1 1) (fraction 1 1)
+    score-before-falls {weaker = 2_300_000} {held = 2_340_000} {required = 14_400_000_000} {more = 16_000_000_000} (fraction 1 1) (fraction 20 24)
     (lit≤ tt) (lit≤ tt) (lit≤ tt) (lit< tt) (lit< tt)
 
 -- P1's storey with ends that hold 2 kN and 1.3 kN, at zone 90 without marks and then at zone 100 with marks worth 4. The better end stays in

@@ -87,6 +87,7 @@ worked =
     ∷ deteriorationFactor 5919 7 2 .upper  -- items 6, 7, 8 and 12 absent, items 1, 2, 3 marked: just 7/10, and not below
     ∷ deteriorationFactor 5919 7 2 .lower
     ∷ scoreBeforeLayout 16_000_000 16_000_000_000 (fraction 1 1)  -- as much held as required
+    ∷ scoreBeforeLayout 2_340_000 16_000_000_000 (fraction 20 24)  -- P10 in zone 100 with marks worth 4
     ∷ score 16_000_000 100_000_000 100 (fraction 1 1)  -- "at most 999"
     ∷ band 120_000_000_000 60_000_000_000_000  -- 120,000 kN held, 60,000 kN required: E
     ∷ score 120_000_000_000 60_000_000_000_000 100 (fraction 1 1)
@@ -173,6 +174,7 @@ expected =
     ∷ 14  -- 14/20
     ∷ 20
     ∷ 100  -- scores
+    ∷ 12
     ∷ 999
     ∷ 4  -- above 60,000 kN
     ∷ 200
