@@ -1,7 +1,7 @@
 -- Document 01's houses worked through, from P1's sheet to its report, by computation. Assumes nothing.
 use mathlib.Core.Path.{_≡_, refl, ap}
 use mathlib.Core.List.{List, [], _∷_}
-use Prim.Native.Nat.{ℕ}
+use Prim.Native.Nat.{ℕ, max}
 use native.Mathlib.Nat.{le-refl}
 use lib.ListN.{getD, take, replicate}
 use borrow.Author.Tests.{le-ltb}
@@ -23,10 +23,10 @@ use Rattle.method.specs.Held.{position, foundationUsed, sharedRow, entry, inter
 use Rattle.method.specs.Required.{topLine, constant, groundFactor, narrowFactor, requiredStrength}
 use Rattle.method.specs.LayoutFactor.{reached, band, floorType, layoutFactor}
 use Rattle.method.specs.Deterioration.{points, countedMarks, factorOf, deteriorationFactor}
-use Rattle.method.specs.Score.{score, verdict}
+use Rattle.method.specs.Score.{score, scoreBeforeLayout, verdict}
 use Rattle.method.specs.Worked.{worked, expected}
 use Rattle.method.proofs.Examples.{worked-out}
-use Rattle.diagnosis.specs.House.{share, sharesWhere, heldWhere, inDirection, solidAtEnd, held, endHeld, requiredOf, required, endRequired, endBand, higherBand, storeyFloorType, layout, deterioration, scoreBefore, fullScore, scores, leastOf, leastScore, houseVerdict}
+use Rattle.diagnosis.specs.House.{endA, endB, share, sharesWhere, heldWhere, inDirection, solidAtEnd, held, endHeld, requiredOf, required, endRequired, endBand, higherBand, storeyFloorType, layout, deterioration, scoreBefore, fullScore, scores, leastOf, leastScore, houseVerdict}
 use Rattle.diagnosis.specs.Answers.{recordOf}
 use Rattle.diagnosis.specs.Comparison.{scoreAt}
 use Rattle.diagnosis.specs.Report.{resultRows, reportRows, reportBytes, reporting, refusalLine}
@@ -133,7 +133,7 @@ pub two-judged : Judged sound × Judged heavy × Judged zone100 × Judged softGr
 unfolding p10-judged
 two-judged = (refl, refl, refl, refl, refl, refl, refl)
 
--- From its walls on all is computed.
+-- What its walls hold, whatever those numbers are.
 module _ (weight zone ground age marked : ℕ) (accepted : Judged (twoStoreys weight zone ground age marked)) where
   abbrev house : List ℕ
   house = twoStoreys weight zone ground age marked
@@ -142,33 +142,74 @@ module _ (weight zone ground age marked : ℕ) (accepted : Judged (twoStoreys we
   unfolding p1-walls
   walls = (rw accepted, rw accepted)
 
+  holds : (held house 1 1 ≡ 56_250_000) × (held house 1 2 ≡ 60_000_000) × (held house 2 1 ≡ 35_000_000) × (held house 2 2 ≡ 25_000_000)
+  unfolding p1-scores
+  holds = (rw (walls .0), rw (walls .0), rw (walls .1), rw (walls .1))
+
+  ends-hold :
+      (endHeld house 1 1 endA ≡ 55_000_000) × (endHeld house 1 1 endB ≡ 1_250_000)
+      × (endHeld house 1 2 endA ≡ 0) × (endHeld house 1 2 endB ≡ 0)
+      × (endHeld house 2 1 endA ≡ 17_500_000) × (endHeld house 2 1 endB ≡ 17_500_000)
+      × (endHeld house 2 2 endA ≡ 0) × (endHeld house 2 2 endB ≡ 0)
+  unfolding p1-scores
+  ends-hold = (rw (walls .0), rw (walls .0), rw (walls .0), rw (walls .0), rw (walls .1), rw (walls .1), rw (walls .1), rw (walls .1))
+
+  -- A place's band of an end, higher band, score and score before the layout factor, by what is held there.
+  abbrev bandBy : ℕ → ℕ → ℕ → ℕ → ℕ
+  bandBy storey direction end holding = band holding (endRequired house storey direction end)
+
+  abbrev higherBy : ℕ → ℕ → ℕ → ℕ → ℕ
+  higherBy storey direction a b = max (bandBy storey direction endA a) (bandBy storey direction endB b)
+
+  abbrev fullBy : ℕ → ℕ → ℕ → ℕ → ℕ → ℕ
+  fullBy storey direction all a b =
+      score all (required house storey) (layoutFactor (bandBy storey direction endA a) (bandBy storey direction endB b) (storeyFloorType house storey))
+      (deterioration house)
+
+  abbrev beforeBy : ℕ → ℕ → ℕ
+  beforeBy storey all = scoreBeforeLayout all (required house storey) (deterioration house)
+
+  by-walls :
+      figures house
+      ≡ (fullBy 1 1 56_250_000 55_000_000 1_250_000 ∷ fullBy 1 2 60_000_000 0 0 ∷ fullBy 2 1 35_000_000 17_500_000 17_500_000 ∷ fullBy 2 2 25_000_000 0 0 ∷ [])
+      ∷ (beforeBy 1 56_250_000 ∷ beforeBy 1 60_000_000 ∷ beforeBy 2 35_000_000 ∷ beforeBy 2 25_000_000 ∷ [])
+      ∷ (higherBy 1 1 55_000_000 1_250_000 ∷ higherBy 1 2 0 0 ∷ higherBy 2 1 17_500_000 17_500_000 ∷ higherBy 2 2 0 0 ∷ [])
+      ∷ []
+  unfolding scores joined fullScore scoreBefore layout higherBand endBand
+  by-walls = λ i.
+      (fullBy 1 1 (holds .0 i) (ends-hold .0 i) (ends-hold .1 i) ∷ fullBy 1 2 (holds .1 i) (ends-hold .2 i) (ends-hold .3 i) ∷ fullBy 2 1 (holds .2 i) (ends-hold .4 i) (ends-hold .5 i) ∷ fullBy 2 2 (holds .3 i) (ends-hold .6 i) (ends-hold .7 i) ∷ [])
+      ∷ (beforeBy 1 (holds .0 i) ∷ beforeBy 1 (holds .1 i) ∷ beforeBy 2 (holds .2 i) ∷ beforeBy 2 (holds .3 i) ∷ [])
+      ∷ (higherBy 1 1 (ends-hold .0 i) (ends-hold .1 i) ∷ higherBy 1 2 (ends-hold .2 i) (ends-hold .3 i) ∷ higherBy 2 1 (ends-hold .4 i) (ends-hold .5 i) ∷ higherBy 2 2 (ends-hold .6 i) (ends-hold .7 i) ∷ [])
+      ∷ []
+
+-- From what they hold on all is computed.
 pub sound-figures : figures sound ≡ (131 ∷ 200 ∷ 262 ∷ 187 ∷ []) ∷ (188 ∷ 200 ∷ 262 ∷ 187 ∷ []) ∷ sameBands ∷ []
-unfolding p1-scores
-sound-figures = rw (walls 1 90 1 1 2048 (two-judged .0) .0, walls 1 90 1 1 2048 (two-judged .0) .1)
+unfolding endRequired required requiredOf deterioration storeyFloorType wallRows first nth topLine constant groundFactor narrowFactor requiredStrength reached band floorType layoutFactor points countedMarks factorOf deteriorationFactor score
+sound-figures = by-walls 1 90 1 1 2048 (two-judged .0)
 
 pub heavy-figures : figures heavy ≡ (103 ∷ 157 ∷ 183 ∷ 131 ∷ []) ∷ (147 ∷ 157 ∷ 183 ∷ 131 ∷ []) ∷ sameBands ∷ []
-unfolding p1-scores
-heavy-figures = rw (walls 2 90 1 1 2048 (two-judged .1) .0, walls 2 90 1 1 2048 (two-judged .1) .1)
+unfolding sound-figures
+heavy-figures = by-walls 2 90 1 1 2048 (two-judged .1)
 
 pub zone-figures : figures zone100 ≡ (118 ∷ 180 ∷ 236 ∷ 168 ∷ []) ∷ (169 ∷ 180 ∷ 236 ∷ 168 ∷ []) ∷ sameBands ∷ []
-unfolding p1-scores
-zone-figures = rw (walls 1 100 1 1 2048 (two-judged .2) .0, walls 1 100 1 1 2048 (two-judged .2) .1)
+unfolding sound-figures
+zone-figures = by-walls 1 100 1 1 2048 (two-judged .2)
 
 pub soft-ground-figures : figures softGround ≡ (87 ∷ 133 ∷ 175 ∷ 125 ∷ []) ∷ (125 ∷ 133 ∷ 175 ∷ 125 ∷ []) ∷ sameBands ∷ []
-unfolding p1-scores
-soft-ground-figures = rw (walls 1 90 2 1 2048 (two-judged .3) .0, walls 1 90 2 1 2048 (two-judged .3) .1)
+unfolding sound-figures
+soft-ground-figures = by-walls 1 90 2 1 2048 (two-judged .3)
 
 pub over-ten-figures : figures overTen ≡ (126 ∷ 192 ∷ 251 ∷ 179 ∷ []) ∷ (180 ∷ 192 ∷ 251 ∷ 179 ∷ []) ∷ sameBands ∷ []
-unfolding p1-scores
-over-ten-figures = rw (walls 1 90 1 2 2048 (two-judged .4) .0, walls 1 90 1 2 2048 (two-judged .4) .1)
+unfolding sound-figures
+over-ten-figures = by-walls 1 90 1 2 2048 (two-judged .4)
 
 pub more-marks-figures : figures moreMarks ≡ (104 ∷ 158 ∷ 208 ∷ 148 ∷ []) ∷ (149 ∷ 158 ∷ 208 ∷ 148 ∷ []) ∷ sameBands ∷ []
-unfolding p1-scores
-more-marks-figures = rw (walls 1 90 1 1 2056 (two-judged .5) .0, walls 1 90 1 1 2056 (two-judged .5) .1)
+unfolding sound-figures
+more-marks-figures = by-walls 1 90 1 1 2056 (two-judged .5)
 
 pub all-worse-figures : figures allWorse ≡ (38 ∷ 74 ∷ 87 ∷ 62 ∷ []) ∷ (70 ∷ 74 ∷ 87 ∷ 62 ∷ []) ∷ sameBands ∷ []
-unfolding p1-scores
-all-worse-figures = rw (walls 2 100 2 2 2056 (two-judged .6) .0, walls 2 100 2 2 2056 (two-judged .6) .1)
+unfolding sound-figures
+all-worse-figures = by-walls 2 100 2 2 2056 (two-judged .6)
 
 -- The records of the best and the worst of them, and where a record has the score of a storey and direction.
 pub worsened-records :
