@@ -1,8 +1,9 @@
 -- Document 01's houses worked through, from P1's sheet to its report, by computation. Assumes nothing.
 use mathlib.Core.Path.{_≡_, refl, ap}
 use mathlib.Core.List.{List, [], _∷_}
-use Prim.Native.Nat.{ℕ, max}
+use Prim.Native.Nat.{ℕ, _≤_, max}
 use native.Mathlib.Nat.{le-refl}
+use lib.Dec.{lit≤}
 use lib.ListN.{getD, take, replicate}
 use borrow.Author.Tests.{le-ltb}
 use Rattle.answer.specs.Told.{counted, refusal}
@@ -18,6 +19,7 @@ use Rattle.survey.specs.Ranges as ranges
 use Rattle.survey.specs.Judgement.{_then_, test, outside, leftmost, wrongColumn, houseFault, storeyFault, endsFault, storeyBefore, wallFault, within, partsFault, rowFault, judging}
 use Rattle.survey.specs.Walls.{rowsFrom, rowsWhere, isWallOf, storeyWalls}
 use Rattle.survey.proofs.Examples.{p1-judged, zones-known}
+use Rattle.survey.proofs.Examples as survey
 use Rattle.method.specs.Printed.{nth}
 use Rattle.method.specs.Held.{position, foundationUsed, sharedRow, entry, interpolated, rowFactor, jointFactor, solidShare, openingShare, wallShare, heldStrength}
 use Rattle.method.specs.Required.{topLine, constant, groundFactor, narrowFactor, requiredStrength}
@@ -129,9 +131,21 @@ houses-worked-out = λ i. (p1-diagnosed i .count ∷ []) ∷ p1-after i ∷ p1-o
 abbrev pub Judged : List ℕ → Type 0
 Judged table = judging table ≡ counted 14
 
+in-range : (weight zone ground age marked : ℕ) → 1 ≤ weight → weight ≤ 3 → Known zone → 1 ≤ ground → ground ≤ 2 → 1 ≤ age → age ≤ 2 → marked ≤ 8191
+    → Judged (twoStoreys weight zone ground age marked)
+in-range weight zone ground age marked light heavy known firm soft young old few =
+    survey.two-judged weight zone ground age marked (light, heavy) known (firm, soft) (young, old) few
+
 pub two-judged : Judged sound × Judged heavy × Judged zone100 × Judged softGround × Judged overTen × Judged moreMarks × Judged allWorse
-unfolding p10-judged
-two-judged = (refl, refl, refl, refl, refl, refl, refl)
+two-judged = (
+  in-range 1 90 1 1 2048 (lit≤ tt) (lit≤ tt) (zones-known .2) (lit≤ tt) (lit≤ tt) (lit≤ tt) (lit≤ tt) (lit≤ tt),
+  in-range 2 90 1 1 2048 (lit≤ tt) (lit≤ tt) (zones-known .2) (lit≤ tt) (lit≤ tt) (lit≤ tt) (lit≤ tt) (lit≤ tt),
+  in-range 1 100 1 1 2048 (lit≤ tt) (lit≤ tt) (zones-known .3) (lit≤ tt) (lit≤ tt) (lit≤ tt) (lit≤ tt) (lit≤ tt),
+  in-range 1 90 2 1 2048 (lit≤ tt) (lit≤ tt) (zones-known .2) (lit≤ tt) (lit≤ tt) (lit≤ tt) (lit≤ tt) (lit≤ tt),
+  in-range 1 90 1 2 2048 (lit≤ tt) (lit≤ tt) (zones-known .2) (lit≤ tt) (lit≤ tt) (lit≤ tt) (lit≤ tt) (lit≤ tt),
+  in-range 1 90 1 1 2056 (lit≤ tt) (lit≤ tt) (zones-known .2) (lit≤ tt) (lit≤ tt) (lit≤ tt) (lit≤ tt) (lit≤ tt),
+  in-range 2 100 2 2 2056 (lit≤ tt) (lit≤ tt) (zones-known .3) (lit≤ tt) (lit≤ tt) (lit≤ tt) (lit≤ tt) (lit≤ tt),
+)
 
 -- What its walls hold, whatever those numbers are.
 module _ (weight zone ground age marked : ℕ) (accepted : Judged (twoStoreys weight zone ground age marked)) where
@@ -177,9 +191,13 @@ module _ (weight zone ground age marked : ℕ) (accepted : Judged (twoStoreys we
       ∷ []
   unfolding scores joined fullScore scoreBefore layout higherBand endBand
   by-walls = λ i.
-      (fullBy 1 1 (holds .0 i) (ends-hold .0 i) (ends-hold .1 i) ∷ fullBy 1 2 (holds .1 i) (ends-hold .2 i) (ends-hold .3 i) ∷ fullBy 2 1 (holds .2 i) (ends-hold .4 i) (ends-hold .5 i) ∷ fullBy 2 2 (holds .3 i) (ends-hold .6 i) (ends-hold .7 i) ∷ [])
+      (fullBy 1 1 (holds .0 i) (ends-hold .0 i) (ends-hold .1 i)
+      ∷ fullBy 1 2 (holds .1 i) (ends-hold .2 i) (ends-hold .3 i)
+      ∷ fullBy 2 1 (holds .2 i) (ends-hold .4 i) (ends-hold .5 i)
+      ∷ fullBy 2 2 (holds .3 i) (ends-hold .6 i) (ends-hold .7 i) ∷ [])
       ∷ (beforeBy 1 (holds .0 i) ∷ beforeBy 1 (holds .1 i) ∷ beforeBy 2 (holds .2 i) ∷ beforeBy 2 (holds .3 i) ∷ [])
-      ∷ (higherBy 1 1 (ends-hold .0 i) (ends-hold .1 i) ∷ higherBy 1 2 (ends-hold .2 i) (ends-hold .3 i) ∷ higherBy 2 1 (ends-hold .4 i) (ends-hold .5 i) ∷ higherBy 2 2 (ends-hold .6 i) (ends-hold .7 i) ∷ [])
+      ∷ (higherBy 1 1 (ends-hold .0 i) (ends-hold .1 i) ∷ higherBy 1 2 (ends-hold .2 i) (ends-hold .3 i)
+      ∷ higherBy 2 1 (ends-hold .4 i) (ends-hold .5 i) ∷ higherBy 2 2 (ends-hold .6 i) (ends-hold .7 i) ∷ [])
       ∷ []
 
 -- From what they hold on all is computed.

@@ -3,7 +3,7 @@
 use mathlib.Core.Path.{_≡_, refl, sym, ap, _∙_}
 use mathlib.Core.Bool.{Bool, true, false, _||_}
 use mathlib.Core.List.{List, [], _∷_}
-use Prim.Native.Nat.{ℕ, zero, suc, _*_, _<_, _≤_}
+use Prim.Native.Nat.{ℕ, _*_, _<_, _≤_}
 use native.Mathlib.Omega.{arith}
 use native.Mathlib.Decide.{decLt}
 use lib.ListN.{length, getD}
@@ -19,6 +19,7 @@ use Rattle.method.proofs.Tables.{everyBelow, at-every}
 use Rattle.diagnosis.specs.House.{marked, fullScore, houseVerdict}
 use Rattle.diagnosis.specs.Comparison.{mayDiffer, NoLower, Worse, InHouse, Kept, Applies}
 use Rattle.diagnosis.specs.Worked.{p10, sound, heavy, zone100, softGround, overTen, moreMarks, allWorse, figures, sameBands}
+use Rattle.diagnosis.proofs.ScoreLists.{one-or-two}
 use Rattle.diagnosis.proofs.Comparing.{comparison}
 use Rattle.diagnosis.proofs.Examples.{p10-judged, p10-rises, two-judged, sound-figures, heavy-figures, zone-figures, soft-ground-figures, over-ten-figures, more-marks-figures, all-worse-figures}
 
@@ -68,13 +69,6 @@ pub bands-needed : ((A B : List ℕ) → Worse A B → (storey direction : ℕ) 
 bands-needed claim =
     let stands : InHouse (p10 90) 1 1 = record { some-storey = omega arith; last-storey = omega arith; some-direction = omega arith; last-direction = omega arith } in
     omega (arith, claim (p10 90) (p10 100) p10-worse 1 1 stands, p10-scores)
-
--- What holds of 1 and 2 holds of a storey of two, and of a direction.
-one-or-two : (P : ℕ → Type 0) → P 1 → P 2 → (n : ℕ) → 1 ≤ n → n ≤ 2 → P n
-one-or-two P one two zero some most = absurd (omega arith)
-one-or-two P one two (suc zero) some most = one
-one-or-two P one two (suc (suc zero)) some most = two
-one-or-two P one two (suc (suc (suc n))) some most = absurd (omega arith)
 
 -- The sound house of two storeys made worse, with the same bands of its better ends.
 module _

@@ -57,11 +57,12 @@ pub scores-length : (table : List ℕ) → length (scores table) ≡ 2 * storeys
 unfolding scores
 scores-length table = joined-length 2 (λ below. storeyScores table (below + 1)) (λ i. refl) (storeys table)
 
-two-listed : (f : ℕ → ℕ) (direction : ℕ) → 1 ≤ direction → direction ≤ 2 → getD (f 1 ∷ f 2 ∷ []) (direction - 1) 0 ≡ f direction
-two-listed f zero some most = absurd (omega arith)
-two-listed f (suc zero) some most = refl
-two-listed f (suc (suc zero)) some most = refl
-two-listed f (suc (suc (suc n))) some most = absurd (omega arith)
+-- What holds of 1 and 2 holds of a direction, and of a storey of two.
+pub one-or-two : (P : ℕ → Type 0) → P 1 → P 2 → (n : ℕ) → 1 ≤ n → n ≤ 2 → P n
+one-or-two P one two zero some most = absurd (omega arith)
+one-or-two P one two (suc zero) some most = one
+one-or-two P one two (suc (suc zero)) some most = two
+one-or-two P one two (suc (suc (suc n))) some most = absurd (omega arith)
 
 module _ (table : List ℕ) (storey direction : ℕ) (s : InHouse table storey direction) where
   -- Among them, the score of a storey and direction.
@@ -72,7 +73,7 @@ module _ (table : List ℕ) (storey direction : ℕ) (s : InHouse table storey d
       sym (part-at 2 (storey - 1) (scores table) (direction - 1) (omega arith))
       ∙ ap (λ (p : List ℕ). getD p (direction - 1) 0)
       (joined-part 2 (λ below. storeyScores table (below + 1)) (λ i. refl) (storeys table) (storey - 1) (omega arith))
-      ∙ rw next (two-listed (fullScore table storey) direction (s .some-direction) (s .last-direction))
+      ∙ rw next (one-or-two (λ d. getD (storeyScores table storey) (d - 1) 0 ≡ fullScore table storey d) refl refl direction (s .some-direction) (s .last-direction))
 
   -- And in the house's record.
   pub record-score : getD (recordOf table .scores) (scoreAt storey direction) 0 ≡ fullScore table storey direction

@@ -30,7 +30,7 @@ use Rattle.diagnosis.proofs.Comparing as comparing
 use Rattle.diagnosis.proofs.Examples as examples
 use Rattle.diagnosis.proofs.Pairs as pairs
 
--- Demand 2: the record and the report
+-- Demand 2: the scores and the record
 
 -- The least score is at most each score of a house, and is one of them.
 pub least-score-most : (table : List ℕ) (storey direction : ℕ) → InHouse table storey direction → leastScore table ≤ fullScore table storey direction
@@ -48,37 +48,6 @@ record-score = score-lists.record-score
 -- A table is scored just where the refusal's number is 0, so a host can tell by the number.
 pub scored-by-number : (table : List ℕ) → scoring table .scored ≡ eqb (scoring table .number) 0
 scored-by-number = score-lists.scored-by-number
-
--- No number of a report is too large for its field, so the report is the sheet that is written of its rows.
-pub report-fits : (table : List ℕ) → judging table .number ≡ 0 → (i : ℕ) → getD (reportRows table) i 0 ≤ 99999999
-report-fits = report-numbers.report-fits
-
-pub report-is-sheet : (table : List ℕ) → judging table .number ≡ 0 → (lent : List ℕ) → 65 * reportLines table ≤ length lent
-    → (counted (65 * reportLines table) ≡ writing (reportRows table) (length lent))
-    × (over lent (reportBytes table) ≡ afterWriting (reportRows table) lent)
-report-is-sheet = report-numbers.report-is-sheet
-
--- Demand 1: the whole program
-
--- 9 is told only where the report needs more bytes than were lent, and no report needs more than 455.
-pub short-only : (sheet : List ℕ) (lent : ℕ) → diagnosing sheet lent .number ≡ lent-space-short
-    → (lent < 65 * reportLines (tableOf sheet)) × (65 * reportLines (tableOf sheet) ≤ mostReportBytes)
-short-only = program.short-only
-
--- No more bytes are counted than were lent.
-pub diagnosed-within : (sheet : List ℕ) (lent : ℕ) (answer : Answer) (count : ℕ) → told answer ≡ diagnosing sheet lent → answer ≡ Count count → count ≤ lent
-diagnosed-within sheet lent answer count diagnosed e = program.diagnosed-count sheet lent diagnosed e .2
-
--- The program never prints 9, and never more than the longest report.
-pub output-never-short : (sheet : List ℕ) → diagnosing sheet mostReportBytes .number ≡ lent-space-short → ⊥
-output-never-short sheet e = omega (arith, program.short-only sheet mostReportBytes e)
-
-pub output-most : (sheet : List ℕ) → length (output sheet) ≤ mostReportBytes
-output-most = program.output-most
-
--- P1's first line alone ends early: the one line of its refusal, 3 at row 2, column 1, is printed.
-pub refused-output : output (take 65 p1Sheet) ≡ bytes "       0       3       2       1       0       0       0       0\n"
-refused-output = examples.refused-output
 
 -- Demand 3
 
@@ -157,6 +126,37 @@ p10-worse = pairs.p10-worse
 pub bands-needed : ((A B : List ℕ) → Worse A B → (storey direction : ℕ) → InHouse A storey direction → fullScore B storey direction ≤ fullScore A storey direction)
     → ⊥
 bands-needed = pairs.bands-needed
+
+-- Demands 1 and 2: the report, and the whole program
+
+-- No number of a report is too large for its field, so the report is the sheet that is written of its rows.
+pub report-fits : (table : List ℕ) → judging table .number ≡ 0 → (i : ℕ) → getD (reportRows table) i 0 ≤ 99999999
+report-fits = report-numbers.report-fits
+
+pub report-is-sheet : (table : List ℕ) → judging table .number ≡ 0 → (lent : List ℕ) → 65 * reportLines table ≤ length lent
+    → (counted (65 * reportLines table) ≡ writing (reportRows table) (length lent))
+    × (over lent (reportBytes table) ≡ afterWriting (reportRows table) lent)
+report-is-sheet = report-numbers.report-is-sheet
+
+-- 9 is told only where the report needs more bytes than were lent, and no report needs more than 455.
+pub short-only : (sheet : List ℕ) (lent : ℕ) → diagnosing sheet lent .number ≡ lent-space-short
+    → (lent < 65 * reportLines (tableOf sheet)) × (65 * reportLines (tableOf sheet) ≤ mostReportBytes)
+short-only = program.short-only
+
+-- No more bytes are counted than were lent.
+pub diagnosed-within : (sheet : List ℕ) (lent : ℕ) (answer : Answer) (count : ℕ) → told answer ≡ diagnosing sheet lent → answer ≡ Count count → count ≤ lent
+diagnosed-within sheet lent answer count diagnosed e = program.diagnosed-count sheet lent diagnosed e .2
+
+-- The program never prints 9, and never more than the longest report.
+pub output-never-short : (sheet : List ℕ) → diagnosing sheet mostReportBytes .number ≡ lent-space-short → ⊥
+output-never-short sheet e = omega (arith, program.short-only sheet mostReportBytes e)
+
+pub output-most : (sheet : List ℕ) → length (output sheet) ≤ mostReportBytes
+output-most = program.output-most
+
+-- P1's first line alone ends early: the one line of its refusal, 3 at row 2, column 1, is printed.
+pub refused-output : output (take 65 p1Sheet) ≡ bytes "       0       3       2       1       0       0       0       0\n"
+refused-output = examples.refused-output
 
 -- Document 01, "Houses worked through", those lettered P: P1 from its sheet to what is printed, with the count of its bytes; P2 to P9, P11 and
 -- more on plain numbers; P10 in zones 90 and 100, before the layout factor, with it, and the higher band in X, which falls from B to A.
