@@ -130,7 +130,7 @@ bands-needed = pairs.bands-needed
 -- Demands 1 and 2: the report, and the whole program
 
 -- No number of a report is too large for its field, so the report is the sheet that is written of its rows.
-pub report-fits : (table : List ℕ) → judging table .number ≡ 0 → (i : ℕ) → getD (reportRows table) i 0 ≤ 99999999
+pub report-fits : (table : List ℕ) → judging table .number ≡ 0 → (i : ℕ) → getD (reportRows table) i 0 ≤ 99_999_999
 report-fits = report-numbers.report-fits
 
 pub report-is-sheet : (table : List ℕ) → judging table .number ≡ 0 → (lent : List ℕ) → 65 * reportLines table ≤ length lent

@@ -25,10 +25,10 @@ roundedUp n unit = (n + (unit - 1)) / unit
 
 -- 0.01 kN in the units of held and of required strength.
 abbrev pub heldUnit : ℕ
-heldUnit = 10000
+heldUnit = 10_000
 
 abbrev pub requiredUnit : ℕ
-requiredUnit = 10000000
+requiredUnit = 10_000_000
 
 -- A fraction in hundredths.
 abbrev pub hundredths : Fraction → ℕ

@@ -153,11 +153,11 @@ printed-padded : (n : ℕ) → printed n ≡ padded 7 (n / 10) ++ ((48 + n % 10)
 unfolding printed padded
 printed-padded n =
     simp (
-      space-digit 10000000 n (lit< tt),
-      space-digit 1000000 n (lit< tt),
-      space-digit 100000 n (lit< tt),
-      space-digit 10000 n (lit< tt),
-      space-digit 1000 n (lit< tt),
+      space-digit 10_000_000 n (lit< tt),
+      space-digit 1_000_000 n (lit< tt),
+      space-digit 100_000 n (lit< tt),
+      space-digit 10_000 n (lit< tt),
+      space-digit 1_000 n (lit< tt),
       space-digit 100 n (lit< tt),
       space-digit 10 n (lit< tt),
       div-div-eq-div-mul,
@@ -199,7 +199,7 @@ field-padded (suc k) m h =
     ∙ ap (λ (made : Field). after made (digitOr m)) (field-padded k (m / 10) (omega arith)) ∙ next-digit m
 
 -- A printed number is read as that number.
-pub field-printed : (n : ℕ) → n < 100000000 → field (printed n) ≡ Number n
+pub field-printed : (n : ℕ) → n < 100_000_000 → field (printed n) ≡ Number n
 field-printed n h =
     ap field (printed-padded n) ∙ field-snoc (padded 7 (n / 10)) (48 + n % 10)
     ∙ ap (λ (made : Field). after made (48 + n % 10)) (field-padded 7 (n / 10) (omega arith)) ∙ last-digit n
@@ -242,7 +242,7 @@ printed-field l n e f =
     known ∙ sym (printed-padded n)
 
 -- While fewer than eight characters are read, the number has room for one digit more.
-pub field-small : (l : List ℕ) (k : ℕ) → k < 8 → value (field (take k l)) < 10000000
+pub field-small : (l : List ℕ) (k : ℕ) → k < 8 → value (field (take k l)) < 10_000_000
 field-small l k h =
     let short : length (take k l) ≤ 7 = omega (arith, length-take k l) in
     let most : 10 ^ length (take k l) ≤ 10 ^ 7 = pow-le-pow-right (lit< tt) short in

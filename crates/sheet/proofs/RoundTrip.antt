@@ -100,7 +100,7 @@ module _ (sheet : List ℕ) (lines : ℕ) (readable : Readable sheet lines) wher
       let characters = fieldAt sheet (place / 8) (place % 8) in
       let below = rw (field-at-long (place / 8) (place % 8) (omega arith) (omega arith)) at (field-below characters) in
       rw (joined-at (λ place. value (field (fieldAt sheet (place / 8) (place % 8)))) (8 * lines) place h)
-      (le-ltb 99999999 (value (field characters)) (omega arith))
+      (le-ltb 99_999_999 (value (field characters)) (omega arith))
 
   read-writable : Writable (numbersOf (8 * lines) sheet) lines
   read-writable =
@@ -121,7 +121,7 @@ module _ (table : List ℕ) (rows : ℕ) (writable : Writable table rows) where
   written-field i j hi hj =
       let row = part 8 i table in
       let n = getD table (8 * i + j) 0 in
-      let fits : n ≤ 99999999 = ltb-false 99999999 n (writable .right (8 * i + j) (omega (arith, writable .lengths .whole))) in
+      let fits : n ≤ 99_999_999 = ltb-false 99_999_999 n (writable .right (8 * i + j) (omega (arith, writable .lengths .whole))) in
       ap (λ (l : List ℕ). field (part 8 j l)) (written-line i hi)
       ∙ ap field (part-append 8 j (joined 8 (fields row)) (10 ∷ []) (omega (arith, fields-length row 8)))
       ∙ ap field (joined-part 8 (fields row) (field-long row) 8 j hj)

@@ -43,5 +43,5 @@ digitOrSpace weight n = cond (ltb n weight) 32 (48 + n / weight % 10)
 -- A number's eight characters. (Of a number over 99,999,999 they are the last eight digits, and the writer refuses it.)
 unfoldable pub printed : ℕ → List ℕ
 printed n =
-    digitOrSpace 10000000 n ∷ digitOrSpace 1000000 n ∷ digitOrSpace 100000 n ∷ digitOrSpace 10000 n
-    ∷ digitOrSpace 1000 n ∷ digitOrSpace 100 n ∷ digitOrSpace 10 n ∷ (48 + n % 10) ∷ []
+    digitOrSpace 10_000_000 n ∷ digitOrSpace 1_000_000 n ∷ digitOrSpace 100_000 n ∷ digitOrSpace 10_000 n
+    ∷ digitOrSpace 1_000 n ∷ digitOrSpace 100 n ∷ digitOrSpace 10 n ∷ (48 + n % 10) ∷ []

@@ -63,7 +63,7 @@ afterPrinting table sheet =
 
 -- Refusal 4 at a place of eight a row: a number over 99,999,999.
 unfoldable pub tooLarge : List ℕ → ℕ → Bool
-tooLarge table place = ltb 99999999 (getD table place 0)
+tooLarge table place = ltb 99_999_999 (getD table place 0)
 
 -- The answer of writing a table into `lent` bytes.
 unfoldable pub writing : List ℕ → ℕ → Told

@@ -16,7 +16,7 @@ pub enum Field {
 
 // A number with one digit more after it; any other character there makes no field.
 fn digit_after(n: u32, character: u8) -> Field
-    requires { ⌜ n < 10000000 ⌝ }
+    requires { ⌜ n < 10_000_000 ⌝ }
     ensures { λ r. ⌜ r ≡ digitAfter n character ⌝ }
 {
     if character < b'0' {
@@ -30,7 +30,7 @@ fn digit_after(n: u32, character: u8) -> Field
 
 // What a field's characters make, with one character more.
 fn after(made: Field, character: u8) -> Field
-    requires { ⌜ value made < 10000000 ⌝ }
+    requires { ⌜ value made < 10_000_000 ⌝ }
     ensures { λ r. ⌜ r ≡ after made character ⌝ }
 {
     match made {

@@ -20,7 +20,7 @@ mul-result : tie.Need-mul-result
 mul-result c = times-fits 255 255 (omega (arith, c .smaller .ensures)) (omega arith) tt
 
 mul-result-2 : tie.Need-mul-result-2
-mul-result-2 c = times-fits (255 * 255) 4294967295 (times-most 255 255 (omega (arith, c .smaller .ensures)) (omega arith)) (omega arith) tt
+mul-result-2 c = times-fits (255 * 255) 4_294_967_295 (times-most 255 255 (omega (arith, c .smaller .ensures)) (omega arith)) (omega arith) tt
 
 returns : tie.Need-returns
 unfolding solidShare

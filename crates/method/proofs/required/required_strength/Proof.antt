@@ -17,24 +17,24 @@ cast-result : tie.Need-cast-result
 cast-result c = search needs
 
 mul-result : tie.Need-mul-result
-mul-result c = times-fits 255 4294967295 (omega arith) (omega arith) tt
+mul-result c = times-fits 255 4_294_967_295 (omega arith) (omega arith) tt
 
-constant-area : (c : tie.After-ground-factor) → c .before .constant .result * c .before .before .args .area ≤ 255 * 4294967295
-constant-area c = times-most 255 4294967295 (omega arith) (omega arith)
+constant-area : (c : tie.After-ground-factor) → c .before .constant .result * c .before .before .args .area ≤ 255 * 4_294_967_295
+constant-area c = times-most 255 4_294_967_295 (omega arith) (omega arith)
 
 mul-result-2 : tie.Need-mul-result-2
-mul-result-2 c = times-fits (255 * 4294967295) 255 (constant-area c) (omega arith) tt
+mul-result-2 c = times-fits (255 * 4_294_967_295) 255 (constant-area c) (omega arith) tt
 
 cast-result-2 : tie.Need-cast-result-2
 cast-result-2 c = search needs
 
 mul-result-3 : tie.Need-mul-result-3
-mul-result-3 c = times-fits (255 * 4294967295 * 255) 255 (times-most (255 * 4294967295) 255 (constant-area c) (omega arith)) (omega arith) tt
+mul-result-3 c = times-fits (255 * 4_294_967_295 * 255) 255 (times-most (255 * 4_294_967_295) 255 (constant-area c) (omega arith)) (omega arith) tt
 
 mul-result-4 : tie.Need-mul-result-4
 mul-result-4 c =
-    times-fits (255 * 4294967295 * 255 * 255) 255
-    (times-most (255 * 4294967295 * 255) 255 (times-most (255 * 4294967295) 255 (constant-area c) (omega arith)) (omega arith)) (omega arith) tt
+    times-fits (255 * 4_294_967_295 * 255 * 255) 255
+    (times-most (255 * 4_294_967_295 * 255) 255 (times-most (255 * 4_294_967_295) 255 (constant-area c) (omega arith)) (omega arith)) (omega arith) tt
 
 returns : tie.Need-returns
 unfolding requiredStrength

@@ -21,7 +21,7 @@ returns-2 : tie.Need-returns-2
 returns-2 c = after-zero _ (c .before .before .made .given .1) (c .if2 .taken)
 
 digit-after-requires-2 : tie.Need-digit-after-requires-2
-digit-after-requires-2 c κs = value-number 10000000 (c .before .before .made .given .1) (c .before .before .before .before .pre)
+digit-after-requires-2 c κs = value-number 10_000_000 (c .before .before .made .given .1) (c .before .before .before .before .pre)
 
 enum-told-2 : tie.Need-enum-told-2
 enum-told-2 c = search needs
