@@ -4,10 +4,12 @@
 //! with what it must then hold. So a changed byte is seen wherever it is: in what was lent, after a refusal, after the
 //! last one written, or beside it.
 
+mod common;
+
 use std::fmt::Debug;
-use std::ops::Range;
 use std::ptr;
 
+use common::calls::{Diagnose, Read, Score, WriteReport, raw_answer, sheet_of};
 use girderbasil_host::answers::{Record, Refusal};
 use girderbasil_host::library::{self, raw};
 use girderbasil_host::model::{self, score::Diagnosis};
@@ -18,61 +20,6 @@ const HOUSES: usize = 200_000;
 const DAMAGED_TABLES: usize = 300_000;
 const SHEETS: usize = 200_000;
 const DAMAGED_SHEETS: usize = 300_000;
-
-/// Storage to be lent, inside a larger buffer. Bytes start anywhere in it, aligned or not.
-struct Lent<T> {
-    buffer: Vec<T>,
-    range: Range<usize>,
-}
-
-impl<T: Copy> Lent<T> {
-    fn new(random: &mut Random, length: usize, contents: fn(&mut Random, usize) -> Vec<T>) -> Self {
-        let start = random.between(1, 16) as usize;
-        let after = random.between(1, 16) as usize;
-        Self {
-            buffer: contents(random, start + length + after),
-            range: start..start + length,
-        }
-    }
-
-    /// Storage that holds a copy of something.
-    fn copy_of(
-        random: &mut Random,
-        held: &[T],
-        contents: fn(&mut Random, usize) -> Vec<T>,
-    ) -> Self {
-        let mut lent = Self::new(random, held.len(), contents);
-        lent.slice_mut().copy_from_slice(held);
-        lent
-    }
-
-    fn slice(&self) -> &[T] {
-        &self.buffer[self.range.clone()]
-    }
-
-    fn slice_mut(&mut self) -> &mut [T] {
-        &mut self.buffer[self.range.clone()]
-    }
-
-    /// What the whole buffer must hold once something was written at the front of what was lent.
-    fn after_writing(&self, written: &[T]) -> Vec<T> {
-        let mut after = self.buffer.clone();
-        after[self.range.start..][..written.len()].copy_from_slice(written);
-        after
-    }
-}
-
-/// How much is lent where so much is needed: all sorts of too little, just enough, and more.
-fn lent_length(random: &mut Random, needed: usize, most: usize) -> usize {
-    match random.below(10) {
-        0 => 0,
-        1 | 2 => needed.saturating_sub(1),
-        3 => random.below(needed + 1),
-        4..=6 => needed,
-        7 => needed + random.between(1, 100) as usize,
-        _ => most.max(needed),
-    }
-}
 
 /// How often each kind of answer and house was met.
 #[derive(Debug, Default)]
@@ -138,55 +85,6 @@ fn number_of<T>(answer: &Result<T, Refusal>) -> usize {
         .map_or(0, |refusal| refusal.number as usize)
 }
 
-fn raw_answer(answer: Result<usize, Refusal>) -> raw::Answer {
-    let (number, row, column, count) = match answer {
-        Ok(count) => (0, 0, 0, count as u32),
-        Err(refusal) => (refusal.number, refusal.row, refusal.column, 0),
-    };
-    raw::Answer {
-        number,
-        row,
-        column,
-        count,
-    }
-}
-
-/// A refused table's record is all 0.
-fn raw_scoring(answer: Result<Record, Refusal>) -> raw::Scoring {
-    let nothing = Record {
-        scores: [0; 6],
-        count: 0,
-        verdict: 0,
-    };
-    let none = Refusal::without_place(0);
-    let (record, refusal) = match answer {
-        Ok(record) => (record, none),
-        Err(refusal) => (nothing, refusal),
-    };
-    raw::Scoring {
-        number: refusal.number,
-        row: refusal.row,
-        column: refusal.column,
-        scores: record.scores,
-        count: record.count,
-        verdict: record.verdict,
-    }
-}
-
-/// What is printed stands at the front, and the bytes after it are 0.
-fn raw_output(answer: Result<(), Refusal>, printed: &[u8]) -> raw::Output {
-    let refusal = answer.err().unwrap_or(Refusal::without_place(0));
-    let mut bytes = [0; MOST_REPORT_BYTES];
-    bytes[..printed.len()].copy_from_slice(printed);
-    raw::Output {
-        number: refusal.number,
-        row: refusal.row,
-        column: refusal.column,
-        count: printed.len() as u32,
-        bytes,
-    }
-}
-
 /// Compares buffers without printing thousands of numbers where they differ.
 fn assert_same<T: PartialEq + Debug>(found: &[T], expected: &[T], of_what: &str) {
     let first = found
@@ -204,95 +102,67 @@ fn assert_same<T: PartialEq + Debug>(found: &[T], expected: &[T], of_what: &str)
 
 /// Has a sheet read; the table where it was.
 fn check_read(random: &mut Random, sheet: &[u8], tally: &mut Tally) -> Option<Vec<u32>> {
-    let needed = sheet.len() / LINE * ROW;
-    let length = lent_length(random, needed, MOST_ROWS * ROW);
-    let expected = model::read(sheet, length);
-    let sheet_lent = Lent::copy_of(random, sheet, Random::bytes);
-    let sheet_after = sheet_lent.buffer.clone();
-    let mut table_lent = Lent::new(random, length, Random::numbers);
-    let table_after = table_lent.after_writing(expected.as_deref().unwrap_or_default());
+    let mut call = Read::new(random, sheet);
+    let sheet_after = call.sheet.buffer.clone();
 
-    let answer = library::raw_read(sheet_lent.slice(), table_lent.slice_mut());
+    let answer = library::raw_read(call.sheet.slice(), call.table.slice_mut());
 
-    let rows = expected.as_ref().map(|table| table.len() / ROW);
-    assert_eq!(answer, raw_answer(rows.map_err(|refusal| *refusal)));
-    assert_same(&table_lent.buffer, &table_after, "the table that was lent");
-    assert_same(&sheet_lent.buffer, &sheet_after, "the sheet");
-    let number = number_of(&expected);
+    assert_eq!(answer, call.answer());
+    assert_same(&call.table.buffer, &call.table_after, "the table");
+    assert_same(&call.sheet.buffer, &sheet_after, "the sheet");
+    let number = number_of(&call.expected);
     tally.read[number] += 1;
-    if number == 9 && number_of(&model::read(sheet, needed)) == 2 {
+    if number == 9 && number_of(&model::read(sheet, MOST_ROWS * ROW)) == 2 {
         tally.short_before_misprint += 1;
     }
-    expected.ok()
+    call.expected.ok()
 }
 
 /// Has a table scored, and its report written.
 fn check_table(random: &mut Random, table: &[u32], tally: &mut Tally) {
-    let expected = model::score(table);
-    let lent = Lent::copy_of(random, table, Random::numbers);
-    let after = lent.buffer.clone();
+    let call = Score::new(random, table);
+    let after = call.table.buffer.clone();
 
-    assert_eq!(library::raw_score(lent.slice()), raw_scoring(expected));
-    assert_eq!(library::score(lent.slice()), expected);
+    assert_eq!(library::raw_score(call.table.slice()), call.answer());
+    assert_eq!(library::score(call.table.slice()), call.expected);
 
-    assert_same(&lent.buffer, &after, "the table that was scored");
+    assert_same(&call.table.buffer, &after, "the table that was scored");
     tally.cases += 1;
-    tally.scored[number_of(&expected)] += 1;
-    if let Ok(record) = &expected {
+    tally.scored[number_of(&call.expected)] += 1;
+    if let Ok(record) = &call.expected {
         tally.count_house(table, record);
     }
     check_report(random, table, tally);
 }
 
 fn check_report(random: &mut Random, table: &[u32], tally: &mut Tally) {
-    let needed =
-        model::write_report(table, MOST_REPORT_BYTES).map_or(3 * LINE, |report| report.len());
-    let length = lent_length(random, needed, MOST_REPORT_BYTES);
-    let expected = model::write_report(table, length);
-    let table_lent = Lent::copy_of(random, table, Random::numbers);
-    let table_after = table_lent.buffer.clone();
-    let mut report_lent = Lent::new(random, length, Random::bytes);
-    let report_after = report_lent.after_writing(expected.as_deref().unwrap_or_default());
+    let mut call = WriteReport::new(random, table);
+    let table_after = call.table.buffer.clone();
 
-    let answer = library::raw_write_report(table_lent.slice(), report_lent.slice_mut());
+    let answer = library::raw_write_report(call.table.slice(), call.report.slice_mut());
 
-    let bytes = expected.as_ref().map(Vec::len);
-    assert_eq!(answer, raw_answer(bytes.map_err(|refusal| *refusal)));
-    assert_same(
-        &report_lent.buffer,
-        &report_after,
-        "the bytes that were lent",
-    );
-    assert_same(&table_lent.buffer, &table_after, "the table");
-    let number = number_of(&expected);
+    assert_eq!(answer, call.answer());
+    assert_same(&call.report.buffer, &call.report_after, "the report");
+    assert_same(&call.table.buffer, &table_after, "the table");
+    let number = number_of(&call.expected);
     tally.reported[number] += 1;
-    if !matches!(number, 0 | 9) && length < 3 * LINE {
+    if !matches!(number, 0 | 9) && call.report.slice().len() < 3 * LINE {
         tally.other_before_short += 1;
     }
 }
 
 /// Has the library tell what is printed for a sheet.
 fn check_output(random: &mut Random, sheet: &[u8], tally: &mut Tally) {
-    let expected = model::read(sheet, MOST_ROWS * ROW)
-        .and_then(|table| model::write_report(&table, MOST_REPORT_BYTES))
-        .map(drop);
-    let printed = model::diagnose(sheet);
-    let lent = Lent::copy_of(random, sheet, Random::bytes);
-    let after = lent.buffer.clone();
+    let call = Diagnose::new(random, sheet);
+    let after = call.sheet.buffer.clone();
 
-    let output = library::raw_diagnose(lent.slice());
+    assert_eq!(library::raw_diagnose(call.sheet.slice()), call.answer());
+    assert_eq!(library::diagnose(call.sheet.slice()), call.printed);
+    let output = library::output(call.sheet.slice());
+    assert_eq!(output.refusal(), call.expected.err());
 
-    assert_eq!(output, raw_output(expected, &printed));
-    assert_same(&lent.buffer, &after, "the sheet");
-    assert_eq!(library::diagnose(sheet), printed);
-    assert_eq!(library::output(sheet).refusal(), expected.err());
-    tally.printed[number_of(&expected)] += 1;
-}
-
-/// A sheet from a table, which may be damaged. Numbers that no field holds are cut to what one does.
-fn sheet_of(table: &[u32]) -> Vec<u8> {
-    let held: Vec<u32> = table.iter().map(|number| number % 100_000_000).collect();
-    model::write(&held, usize::MAX).unwrap_or_default()
+    assert_same(&call.sheet.buffer, &after, "the sheet");
+    tally.printed[number_of(&call.expected)] += 1;
 }
 
 /// Has so many tables of a maker scored and reported.
@@ -386,7 +256,8 @@ fn refused_sheets_are_told_with_row_before_column() {
 /// An empty slice of Rust has a pointer that isn't null; one of C may be null.
 #[test]
 fn nothing_lent_may_be_null() {
-    let refused = |number| raw_answer(Err(Refusal::without_place(number)));
+    let refused = |number| raw_answer(Err(&Refusal::without_place(number)));
+    let mut random = Random::new(5);
     let mut table = worked::TABLE;
     let mut report = [7; MOST_REPORT_BYTES];
     // SAFETY: each pointer is null with length 0, or comes from a slice of the length given; none overlap.
@@ -397,10 +268,9 @@ fn nothing_lent_may_be_null() {
         let answer = raw::girderbasil_read(sheet, length, ptr::null_mut(), 0);
         assert_eq!(answer, refused(Refusal::LENT_SPACE_SHORT));
         let scoring = raw::girderbasil_score(ptr::null(), 0);
-        assert_eq!(scoring, raw_scoring(Err(Refusal::without_place(1))));
+        assert_eq!(scoring, Score::new(&mut random, &[]).answer());
         let output = raw::girderbasil_diagnose(ptr::null(), 0);
-        let refusal = Refusal::without_place(Refusal::SHEET_LENGTH);
-        assert_eq!(output, raw_output(Err(refusal), &model::diagnose(&[])));
+        assert_eq!(output, Diagnose::new(&mut random, &[]).answer());
         let answer =
             raw::girderbasil_write_report(ptr::null(), 0, report.as_mut_ptr(), report.len());
         assert_eq!(answer, refused(Refusal::SHEET_LENGTH));

@@ -9,36 +9,15 @@ use std::fs;
 use std::path::{Path, PathBuf};
 use std::process::{Command, Output};
 
-const HEADER: &str = include_str!("../../include/girderbasil.h");
-const PROGRAM: &str = include_str!("header.c");
+use common::header::{HEADER, functions, words};
 
-/// The words of a text that satisfy a test, each once.
-fn words(text: &'static str, wanted: fn(&str) -> bool) -> Vec<&'static str> {
-    let mut words: Vec<&str> = text
-        .split(|letter: char| !letter.is_ascii_alphanumeric() && letter != '_')
-        .filter(|word| wanted(word))
-        .collect();
-    words.sort_unstable();
-    words.dedup();
-    words
-}
+const PROGRAM: &str = include_str!("header.c");
 
 /// The numbers that the header names. The word left out keeps it from being included twice.
 fn names() -> Vec<&'static str> {
     words(HEADER, |word| {
         word.starts_with("GIRDERBASIL_") && word != "GIRDERBASIL_H"
     })
-}
-
-/// The functions that the header declares: words that an opening bracket follows.
-fn functions() -> Vec<&'static str> {
-    let declared = HEADER.lines().filter(|line| !line.starts_with([' ', '#']));
-    let mut functions: Vec<&str> = declared
-        .filter_map(|line| line.split_once('(')?.0.split_whitespace().last())
-        .filter(|word| word.starts_with("girderbasil_") && *word != "girderbasil_assert")
-        .collect();
-    functions.sort_unstable();
-    functions
 }
 
 /// Compiles tests/header.c with a header, as a standard.

@@ -1,11 +1,16 @@
 //! Running programs, for the tests that do. Each test uses its own part of this.
 #![allow(dead_code)]
 
+pub mod calls;
+pub mod header;
+pub mod lent;
+
 use std::fs;
 use std::io::{ErrorKind, Write};
 use std::path::{Path, PathBuf};
 use std::process::{Command, Output, Stdio};
 use std::sync::OnceLock;
+use std::thread;
 
 use girderbasil_host::random::{Random, damage};
 use girderbasil_host::{model, worked};
@@ -24,24 +29,37 @@ pub fn folder(name: &str) -> PathBuf {
     folder
 }
 
-/// Compiles a program of C, or of C++ where the standard is one of C++, and links it with the archive. Every warning is
-/// an error.
+/// A compiler of C or C++ to which every warning is an error.
+pub fn compiler(name: &str, standard: &str, include: &Path) -> Command {
+    let mut command = Command::new(name);
+    command
+        .arg(format!("-std={standard}"))
+        .args(["-Wall", "-Wextra", "-Werror", "-pedantic", "-I"])
+        .arg(include);
+    command
+}
+
+/// Compiles a program of C, or of C++ where the standard is one of C++, and links it with the archive.
 pub fn compile(standard: &str, include: &Path, source: &Path, program: &Path) -> Output {
-    let (compiler, language) = if standard.starts_with("c++") {
+    let (name, language) = if standard.starts_with("c++") {
         ("g++", "c++")
     } else {
         ("cc", "c")
     };
-    Command::new(compiler)
-        .arg(format!("-std={standard}"))
-        .args(["-Wall", "-Wextra", "-Werror", "-pedantic", "-I"])
-        .arg(include)
+    let mut command = compiler(name, standard, include);
+    command
         .args(["-x", language])
         .arg(source)
         .args(["-x", "none", env!("GIRDERBASIL_ARCHIVE"), "-o"])
-        .arg(program)
+        .arg(program);
+    output(&mut command)
+}
+
+/// What a command printed, and how it ended.
+pub fn output(command: &mut Command) -> Output {
+    command
         .output()
-        .unwrap_or_else(|error| panic!("`{compiler}` does not run: {error}"))
+        .unwrap_or_else(|error| panic!("{command:?} does not run: {error}"))
 }
 
 /// The same with the repository's own header, of a program that must compile without a word.
@@ -52,12 +70,17 @@ pub fn compiled(standard: &str, source: &str, program: PathBuf) -> PathBuf {
         &top().join(source),
         &program,
     );
+    assert_silent(&output, &format!("{source} as {standard}"));
+    program
+}
+
+/// Asserts that a command did what it was asked for without a word of complaint.
+pub fn assert_silent(output: &Output, of_what: &str) {
     let complaints = String::from_utf8_lossy(&output.stderr);
     assert!(
         output.status.success() && complaints.is_empty(),
-        "{source} as {standard}: {complaints}"
+        "{of_what}: {complaints}"
     );
-    program
 }
 
 /// The scoring program. The command builds it where it is missing or older than its source.
@@ -81,15 +104,17 @@ pub fn run(command: &mut Command, input: &[u8]) -> Output {
         .stdout(Stdio::piped())
         .stderr(Stdio::piped())
         .spawn()
-        .expect("the command starts");
+        .unwrap_or_else(|error| panic!("{command:?} does not run: {error}"));
     let mut piped = child.stdin.take().expect("its input is piped");
-    match piped.write_all(input) {
-        // It need not read to the end, or at all.
-        Err(error) if error.kind() == ErrorKind::BrokenPipe => {}
-        written => written.expect("its input can be written"),
-    }
-    drop(piped);
-    child.wait_with_output().expect("the command ends")
+    // It may print while there is still something for it to read.
+    thread::scope(|scope| {
+        scope.spawn(move || match piped.write_all(input) {
+            // It need not read to the end, or at all.
+            Err(error) if error.kind() == ErrorKind::BrokenPipe => {}
+            written => written.expect("its input can be written"),
+        });
+        child.wait_with_output().expect("the command ends")
+    })
 }
 
 /// Runs the scoring program on a sheet.

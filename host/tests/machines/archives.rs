@@ -1,0 +1,1 @@
+//! What `tools/archive` writes, and when it writes nothing.

@@ -1,0 +1,1 @@
+//! The code of docs/PHONE.md, compiled and run as it stands there.

@@ -1,0 +1,1 @@
+//! How much stack a call takes, on each machine, against what docs/PHONE.md says.
