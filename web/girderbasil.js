@@ -70,17 +70,27 @@ const PAGE = 65536;
  * @returns {Promise<Girderbasil>}
  */
 export async function load(source) {
-    const compiled = kindOf(source) === "WebAssembly.Module";
-    if (!compiled && !ArrayBuffer.isView(source) && kindOf(source) !== "ArrayBuffer") {
-        throw new TypeError(`load: the source must be the bytes of girderbasil.wasm or a module, not ${described(source)}`);
-    }
-    const module = compiled ? source : await WebAssembly.compile(source);
+    const module = kindOf(source) === "WebAssembly.Module" ? source : await WebAssembly.compile(bytesOf(source));
     const names = WebAssembly.Module.exports(module).map((one) => one.name);
     const missing = [...FUNCTIONS, "memory", "__heap_base"].find((name) => !names.includes(name));
     if (missing !== undefined) {
         throw new TypeError(`load: this module is not girderbasil.wasm: it has no ${missing}`);
     }
     return new Girderbasil(await WebAssembly.instantiate(module));
+}
+
+/**
+ * @param {any} source
+ * @returns {BufferSource}
+ */
+function bytesOf(source) {
+    if (ArrayBuffer.isView(source)) {
+        return new Uint8Array(source.buffer, source.byteOffset, source.byteLength);
+    }
+    if (kindOf(source) !== "ArrayBuffer") {
+        throw new TypeError(`load: the source must be the bytes of girderbasil.wasm or a module, not ${described(source)}`);
+    }
+    return source;
 }
 
 /** The library, with memory of its own. `load` makes one. */

@@ -8,7 +8,7 @@ use girderbasil_host::random::{Random, damage};
 use crate::common::calls::{Diagnose, Read, Score, WriteReport};
 use crate::common::header;
 use crate::common::lent::Lent;
-use crate::{ARM64, X86_64, common, program, script};
+use crate::{ARM64, X86_64, common, module, program, script};
 
 const CALLS: usize = 50_000;
 /// As many calls go to a program at a time.
@@ -266,4 +266,14 @@ fn under_node_the_javascript_answers_as_the_model_does() {
     let mut wrapped = script("calls");
     wrapped.arg("wrapped");
     answers_as_the_model_does(wrapped);
+}
+
+#[test]
+fn under_node_the_javascript_passes_its_own_tests() {
+    module();
+    let mut node = Command::new("node");
+    let output = common::output(node.arg("--test").arg(common::top().join("web")));
+    let printed = String::from_utf8_lossy(&output.stdout);
+    assert!(output.status.success(), "{printed}");
+    assert!(!printed.contains("# tests 0"), "it has none");
 }

@@ -1,0 +1,158 @@
+// Tests of girderbasil.js, for node's own test runner: `tools/archive wasm32`, then `node --test web/`.
+import assert from "node:assert/strict";
+import { readFileSync } from "node:fs";
+import { test } from "node:test";
+import { runInNewContext } from "node:vm";
+
+import { Girderbasil, LINE, load, MOST_REPORT_BYTES, MOST_ROWS, ROW } from "./girderbasil.js";
+
+const beside = (path) => readFileSync(new URL(path, import.meta.url));
+const wasm = beside("../target/archive/wasm32/girderbasil.wasm");
+const sheet = new Uint8Array(beside("../examples/p1.sheet"));
+const refused = new Uint8Array(beside("../examples/refused.sheet"));
+const library = await load(wasm);
+
+const accepted = { number: 0, row: 0, column: 0 };
+const report =
+    "       6       1       1     920    1600     100      83      47\n" +
+    "       6       1       2    1600    1600     100      83      83\n" +
+    "       7       4      47       0       0       0       0       0\n";
+
+const text = (bytes) => new TextDecoder().decode(bytes);
+
+// The table that a sheet has.
+function tableOf(bytes) {
+    const table = new Uint32Array(MOST_ROWS * ROW);
+    return table.subarray(0, library.read(bytes, table).count * ROW);
+}
+
+test("P1 is read, scored, reported and diagnosed", () => {
+    const table = new Uint32Array(MOST_ROWS * ROW).fill(7);
+    assert.deepEqual(library.read(sheet, table), { ...accepted, count: 11 });
+    assert.deepEqual([...table.subarray(0, 16)], [1, 1, 2, 100, 1, 1, 2, 0, 2, 1, 4000, 5000, 1, 0, 0, 0]);
+    assert.deepEqual([...table.subarray(80, 88)], [5, 8191, 8, 0, 0, 0, 0, 0]);
+    assert.ok(table.subarray(88).every((number) => number === 7));
+
+    const house = table.subarray(0, 88);
+    const scores = Uint32Array.of(47, 83, 0, 0, 0, 0);
+    assert.deepEqual(library.score(house), { ...accepted, scores, count: 2, verdict: 4 });
+
+    const bytes = new Uint8Array(200).fill(7);
+    assert.deepEqual(library.writeReport(house, bytes), { ...accepted, count: 195 });
+    assert.equal(text(bytes.subarray(0, 195)), report);
+    assert.ok(bytes.subarray(195).every((byte) => byte === 7));
+
+    const output = library.diagnose(sheet);
+    assert.deepEqual({ ...output, bytes: null }, { ...accepted, count: 195, bytes: null });
+    assert.equal(text(output.bytes), report.padEnd(MOST_REPORT_BYTES, "\0"));
+});
+
+test("a refusal has its number and place, and changes nothing that was lent", () => {
+    const table = new Uint32Array(88).fill(7);
+    const misprinted = sheet.slice();
+    misprinted.set(new TextEncoder().encode("   02000"), 4 * LINE + 5 * 8);
+    assert.deepEqual(library.read(misprinted, table), { number: 2, row: 5, column: 6, count: 0 });
+    assert.deepEqual(library.read(sheet, table.subarray(1)), { number: 9, row: 0, column: 0, count: 0 });
+    assert.deepEqual(library.read(new Uint8Array(0), table), { number: 1, row: 0, column: 0, count: 0 });
+    assert.ok(table.every((number) => number === 7));
+
+    const house = tableOf(refused);
+    const bytes = new Uint8Array(MOST_REPORT_BYTES).fill(7);
+    const place = { number: 6, row: 3, column: 4 };
+    assert.deepEqual(library.score(house), { ...place, scores: new Uint32Array(6), count: 0, verdict: 0 });
+    assert.deepEqual(library.writeReport(house, bytes), { ...place, count: 0 });
+    const short = library.writeReport(tableOf(sheet), bytes.subarray(0, 194));
+    assert.deepEqual(short, { number: 9, row: 0, column: 0, count: 0 });
+    assert.ok(bytes.every((byte) => byte === 7));
+
+    const output = library.diagnose(refused);
+    assert.equal(text(output.bytes.subarray(0, output.count)), "       0       6       3       4" + "       0".repeat(4) + "\n");
+});
+
+test("only what is lent is filled, wherever it stands", () => {
+    const numbers = new Uint32Array(100).fill(7);
+    assert.equal(library.read(sheet, numbers.subarray(5, 93)).count, 11);
+    assert.ok([...numbers.subarray(0, 5), ...numbers.subarray(93)].every((number) => number === 7));
+    const bytes = new Uint8Array(300).fill(7);
+    assert.equal(library.writeReport(numbers.subarray(5, 93), bytes.subarray(3, 198)).count, 195);
+    assert.ok([...bytes.subarray(0, 3), ...bytes.subarray(198)].every((byte) => byte === 7));
+    assert.equal(text(bytes.subarray(3, 198)), report);
+});
+
+test("arguments may share a buffer: each is copied", () => {
+    const buffer = new ArrayBuffer(88 * 4);
+    const house = new Uint32Array(buffer);
+    house.set(tableOf(sheet));
+    assert.equal(library.writeReport(house, new Uint8Array(buffer)).count, 195);
+    assert.equal(text(new Uint8Array(buffer, 0, 195)), report);
+});
+
+test("an answer is its owner's: a later call leaves it alone", () => {
+    const [output, scoring] = [library.diagnose(sheet), library.score(tableOf(sheet))];
+    library.diagnose(refused);
+    library.score(tableOf(refused));
+    assert.equal(text(output.bytes.subarray(0, 195)), report);
+    assert.deepEqual([...scoring.scores], [47, 83, 0, 0, 0, 0]);
+});
+
+test("anything of any length is answered", () => {
+    const large = new Uint8Array(20_000_000).fill(32);
+    assert.deepEqual(library.read(large, new Uint32Array(1)), { number: 1, row: 0, column: 0, count: 0 });
+    assert.equal(library.diagnose(large).number, 1);
+    assert.equal(library.score(new Uint32Array(5_000_000)).number, 1);
+    assert.deepEqual(library.read(sheet, new Uint32Array(5_000_000)), { ...accepted, count: 11 });
+    assert.equal(library.writeReport(tableOf(sheet), large).count, 195);
+    assert.equal(library.score(new Uint32Array(0)).number, 1);
+    assert.equal(library.writeReport(new Uint32Array(0), new Uint8Array(0)).number, 1);
+});
+
+test("arrays of node and of other frames are arrays", () => {
+    assert.equal(library.diagnose(Buffer.from(sheet)).count, 195);
+    const foreign = runInNewContext("new Uint8Array(1000)");
+    foreign.set(sheet);
+    assert.equal(library.diagnose(foreign.subarray(0, sheet.length)).count, 195);
+});
+
+test("another kind of argument is a TypeError that names it", () => {
+    const table = new Uint32Array(88);
+    const bytes = new Uint8Array(MOST_REPORT_BYTES);
+    const methods = {
+        read: [["sheet", sheet], ["table", table]],
+        score: [["table", table]],
+        writeReport: [["table", table], ["report", bytes]],
+        diagnose: [["sheet", sheet]],
+    };
+    const never = [undefined, null, 7, 7n, "       1", true, [1, 2], {}, new ArrayBuffer(8), new DataView(new ArrayBuffer(8)),
+        new Int32Array(8), new Uint8ClampedArray(8), new Uint16Array(8), { length: 8, [Symbol.toStringTag]: "Uint32Array" }];
+    for (const [method, parameters] of Object.entries(methods)) {
+        for (const [index, [name, right]] of parameters.entries()) {
+            const other = right instanceof Uint8Array ? table : bytes;
+            for (const wrong of [...never, other]) {
+                const words = parameters.map(([, value], each) => (each === index ? wrong : value));
+                const kind = right instanceof Uint8Array ? "Uint8Array" : "Uint32Array";
+                const message = new RegExp(`^${method}: the ${name} must be a ${kind}, not `);
+                assert.throws(() => library[method](...words), { name: "TypeError", message });
+            }
+        }
+    }
+    assert.throws(() => library.read(sheet), { name: "TypeError", message: "read: the table must be a Uint32Array, not nothing" });
+});
+
+test("the module is loaded from its bytes or compiled", async () => {
+    const compiled = await WebAssembly.compile(wasm);
+    const buffer = new Uint8Array(wasm).buffer;
+    for (const source of [wasm, new Uint8Array(wasm), buffer, new DataView(buffer), compiled]) {
+        const loaded = await load(source);
+        assert.ok(loaded instanceof Girderbasil);
+        assert.equal(loaded.diagnose(sheet).count, 195);
+    }
+});
+
+test("anything else is not loaded", async () => {
+    for (const wrong of [undefined, null, "girderbasil.wasm", 7, {}, [0], new Response(wasm), Promise.resolve(wasm)]) {
+        await assert.rejects(load(wrong), { name: "TypeError", message: /^load: the source must be the bytes of girderbasil\.wasm / });
+    }
+    await assert.rejects(load(new Uint8Array(8)), WebAssembly.CompileError);
+    const empty = Uint8Array.of(0, 0x61, 0x73, 0x6d, 1, 0, 0, 0);
+    await assert.rejects(load(empty), { name: "TypeError", message: "load: this module is not girderbasil.wasm: it has no girderbasil_read" });
+});
