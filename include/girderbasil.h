@@ -11,7 +11,8 @@
  * argument. With length 0 the pointer may be null. A call takes some 10 KB of stack at most, and one of
  * diagnose, which holds a table of its own, some 21 KB.
  *
- * Link target/staticlib/libgirderbasil.a, which `rt staticlib girderbasil` builds (x86-64).
+ * Link libgirderbasil.a: target/staticlib/ has it for x86-64 after `rt staticlib girderbasil`, and
+ * target/archive/TARGET/ after `tools/archive TARGET`, for ARM64 too (docs/PHONE.md).
  */
 #ifndef GIRDERBASIL_H
 #define GIRDERBASIL_H
