@@ -17,9 +17,7 @@ export const MOST_ROWS = 311;
 /** The bytes of the longest report. */
 export const MOST_REPORT_BYTES = 7 * LINE;
 
-/**
- * The structs of the header: each one's size, and where its fields begin.
- */
+/** The structs of the header: each one's size, and where its fields begin. */
 export const LAYOUTS = Object.freeze({
     girderbasil_answer: Object.freeze({ size: 16, number: 0, row: 4, column: 8, count: 12 }),
     girderbasil_scoring: Object.freeze({ size: 44, number: 0, row: 4, column: 8, scores: 12, count: 36, verdict: 40 }),
@@ -70,7 +68,9 @@ const PAGE = 65536;
  * @returns {Promise<Girderbasil>}
  */
 export async function load(source) {
-    const module = kindOf(source) === "WebAssembly.Module" ? source : await WebAssembly.compile(bytesOf(source));
+    const module = /** @type {WebAssembly.Module} */ (
+        kindOf(source) === "WebAssembly.Module" ? source : await WebAssembly.compile(bytesOf(source))
+    );
     const names = WebAssembly.Module.exports(module).map((one) => one.name);
     const missing = [...FUNCTIONS, "memory", "__heap_base"].find((name) => !names.includes(name));
     if (missing !== undefined) {

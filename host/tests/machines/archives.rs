@@ -1,6 +1,5 @@
 //! What `tools/archive` writes, and when it writes nothing.
 
-use std::collections::BTreeSet;
 use std::fs;
 use std::os::unix::fs::{PermissionsExt, symlink};
 use std::path::{Path, PathBuf};
@@ -9,8 +8,9 @@ use std::process::{Command, Output};
 use crate::common::header;
 use crate::{TARGETS, X86_64, built, common, module};
 
-/// What a processor without a C library of its own is asked for: the compiler's own copying and filling of memory.
-const ASKED_FOR: [&str; 4] = ["bzero", "memcpy", "memmove", "memset"];
+/// What a library that is linked from an archive may ask others for: the C library's copying and filling of memory, which
+/// the compiler uses, and on Apple's systems the loader.
+const ASKED_FOR: [&str; 5] = ["bzero", "dyld_stub_binder", "memcpy", "memmove", "memset"];
 
 fn text(output: &[u8]) -> String {
     String::from_utf8_lossy(output).into_owned()
@@ -26,42 +26,59 @@ fn kit_tools() -> PathBuf {
         .join("toolchain/bin")
 }
 
-/// The symbols of an archive, by the kit's compiler under another name.
-fn symbols(archive: &Path, words: &[&str]) -> BTreeSet<String> {
-    let names = common::folder("archives").join("llvm-nm");
-    if !names.exists() {
-        symlink(kit_tools().join("clang"), &names).expect("a link");
+/// A tool of the kit: its compiler, by another name.
+fn kit_tool(name: &str) -> Command {
+    let link = common::folder("archives").join(name);
+    if !link.exists() {
+        symlink(kit_tools().join("clang"), &link).expect("a link");
     }
-    let output = common::output(Command::new(names).args(words).arg("-P").arg(archive));
-    common::assert_silent(&output, "llvm-nm");
+    Command::new(link)
+}
+
+/// Links all of a target's archive into a shared library, as a phone loads it, by the linker that its system has.
+fn shared_library(target: &str) -> PathBuf {
+    let library = common::folder("archives").join(target);
+    let mut linker = if target.contains("apple") {
+        let mut linker = kit_tool("ld64.lld");
+        linker.args(["-arch", "arm64", "-platform_version", "ios", "13.0", "13.0"]);
+        linker.args(["-dylib", "-undefined", "dynamic_lookup", "-all_load"]);
+        linker
+    } else {
+        let mut linker = kit_tool("ld.lld");
+        linker.args(["-shared", "--whole-archive"]);
+        linker
+    };
+    linker.arg(built(target).join("libgirderbasil.a"));
+    let output = common::output(linker.arg("-o").arg(&library));
+    common::assert_silent(&output, target);
+    library
+}
+
+/// The symbols of a shared library that others see, or that it asks others for.
+fn symbols(target: &str, library: &Path, which: &str) -> Vec<String> {
+    let mut names = kit_tool("llvm-nm");
+    let seen = if target.contains("apple") { "-g" } else { "-D" };
+    let output = common::output(names.args([seen, which, "-P"]).arg(library));
+    common::assert_silent(&output, target);
     let printed = text(&output.stdout);
-    let named = printed.lines().filter(|line| !line.ends_with(':'));
-    named
+    let mut names: Vec<String> = printed
+        .lines()
         .filter_map(|line| line.split_whitespace().next())
         // Apple's systems have an underscore before each name of C.
         .map(|name| name.trim_start_matches('_').to_string())
-        .collect()
+        .collect();
+    names.sort_unstable();
+    names
 }
 
-/// Beside the functions of the header an archive may have theirs under a name for its own use.
 #[test]
 fn archives_have_the_functions_of_the_header_and_no_more() {
-    let functions: BTreeSet<String> = header::functions()
-        .iter()
-        .map(|&name| name.into())
-        .collect();
     for target in TARGETS.into_iter().filter(|&target| target != "wasm32") {
-        let archive = built(target).join("libgirderbasil.a");
-        let defined = symbols(&archive, &["-g", "--defined-only"]);
-        let (own, open): (BTreeSet<String>, BTreeSet<String>) = defined
-            .into_iter()
-            .partition(|name| name.ends_with("_into"));
-        assert_eq!(open, functions, "{target}");
-        let known = |name: &String| functions.contains(name.trim_end_matches("_into"));
-        assert!(own.iter().all(known), "{target}: {own:?}");
-        assert_eq!(own.is_empty(), target == X86_64, "{target}");
-        let asked = symbols(&archive, &["-u"]);
-        let allowed = |name: &String| own.contains(name) || ASKED_FOR.contains(&name.as_str());
+        let library = shared_library(target);
+        let defined = symbols(target, &library, "--defined-only");
+        assert_eq!(defined, header::functions(), "{target}");
+        let asked = symbols(target, &library, "--undefined-only");
+        let allowed = |name: &String| ASKED_FOR.contains(&name.as_str());
         assert!(asked.iter().all(allowed), "{target}: {asked:?}");
     }
 }

@@ -51,17 +51,18 @@ fn program(target: &str, name: &str) -> Command {
     let folder = common::folder(&format!("machines-{target}"));
     let program = folder.join(name);
     let mut compiler = compiler(target);
-    // Under the emulator there is no C library to be loaded.
     compiler
-        .args(["-O1", "-static"])
+        .arg("-O1")
         .arg(source)
         .arg(built(target).join("libgirderbasil.a"))
         .arg("-o")
         .arg(&program);
-    common::assert_silent(&common::output(&mut compiler), name);
     if target == X86_64 {
+        common::assert_silent(&common::output(&mut compiler), name);
         return Command::new(program);
     }
+    // Under the emulator there is no C library to be loaded.
+    common::assert_silent(&common::output(compiler.arg("-static")), name);
     let mut emulated = Command::new("qemu-aarch64");
     emulated.arg(program);
     emulated
