@@ -39,7 +39,7 @@ export const LAYOUTS = Object.freeze({
  * @property {number} number 0 where scored, else the refusal's number; then the record is all 0
  * @property {number} row
  * @property {number} column
- * @property {Uint32Array} scores six, in hundredths; ground storey X, ground storey Y, next storey X, ..; unused ones 0
+ * @property {number[]} scores six, in hundredths; ground storey X, ground storey Y, next storey X, ..; unused ones 0
  * @property {number} count how many scores there are: two a storey
  * @property {number} verdict 1 to 4
  */
@@ -235,7 +235,7 @@ function scoringAt(view) {
     const layout = LAYOUTS.girderbasil_scoring;
     return {
         ...refusalAt(view, layout),
-        scores: Uint32Array.from({ length: 6 }, (_, each) => numberAt(view, layout.scores + 4 * each)),
+        scores: [0, 1, 2, 3, 4, 5].map((each) => numberAt(view, layout.scores + 4 * each)),
         count: numberAt(view, layout.count),
         verdict: numberAt(view, layout.verdict),
     };

@@ -32,10 +32,12 @@ function takePart(Kind = Uint8Array) {
     return { buffer, before, length, lent: buffer.subarray(before, before + length) };
 }
 
-// The fields of an answer, in the struct's order, as bytes.
+// The fields of an answer, in the struct's order, as bytes: numbers, several numbers, or bytes.
 function fieldsOf(answer) {
-    const parts = Object.values(answer).map((field) => (typeof field === "number" ? Uint32Array.of(field) : field));
-    return Buffer.concat(parts.map((part) => new Uint8Array(part.buffer, part.byteOffset, part.byteLength)));
+    const parts = Object.values(answer).map((field) =>
+        field instanceof Uint8Array ? field : new Uint8Array(Uint32Array.from([field].flat()).buffer),
+    );
+    return Buffer.concat(parts);
 }
 
 // Calls a method of web/girderbasil.js; the buffers are changed, or not, by it.
