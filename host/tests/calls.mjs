@@ -5,12 +5,15 @@
 import { readFileSync } from "node:fs";
 import { LAYOUTS, MOST_REPORT_BYTES, load } from "../../web/girderbasil.js";
 
-// Each function: its method in web/girderbasil.js, what it reads, what it fills, and the bytes of its answer's fields.
+const { girderbasil_answer, girderbasil_scoring, girderbasil_output } = LAYOUTS;
+
+// Each function: its method in web/girderbasil.js, what it reads, what it fills, the bytes of its answer's struct, and of
+// the struct's fields.
 const FUNCTIONS = {
-    girderbasil_read: ["read", Uint8Array, Uint32Array, LAYOUTS.girderbasil_answer.size],
-    girderbasil_score: ["score", Uint32Array, undefined, LAYOUTS.girderbasil_scoring.size],
-    girderbasil_write_report: ["writeReport", Uint32Array, Uint8Array, LAYOUTS.girderbasil_answer.size],
-    girderbasil_diagnose: ["diagnose", Uint8Array, undefined, LAYOUTS.girderbasil_output.bytes + MOST_REPORT_BYTES],
+    girderbasil_read: ["read", Uint8Array, Uint32Array, girderbasil_answer.size, 16],
+    girderbasil_score: ["score", Uint32Array, undefined, girderbasil_scoring.size, 44],
+    girderbasil_write_report: ["writeReport", Uint32Array, Uint8Array, girderbasil_answer.size, 16],
+    girderbasil_diagnose: ["diagnose", Uint8Array, undefined, girderbasil_output.size, 16 + MOST_REPORT_BYTES],
 };
 
 const input = readFileSync(0);
@@ -47,17 +50,18 @@ function callWrapped(library, [method, , Filled], given, lent) {
 }
 
 const GUARD = 64;
+const FILLING = 0xa5;
 
 // Calls an export. What it reads stands before what it fills, which ends where the memory does; the answer has bytes
 // before and after it that must stay.
-function callExport(exports, name, [, , Filled, size], given, lent) {
+function callExport(exports, name, [, , Filled, size, fields], given, lent) {
     const answer = Math.ceil(exports.__heap_base.value / 8) * 8 + GUARD;
-    const from = Math.ceil((answer + LAYOUTS.girderbasil_output.size + GUARD) / 8) * 8;
-    const missing = from + given.buffer.byteLength + lent.buffer.byteLength + 8 - exports.memory.buffer.byteLength;
+    const from = Math.ceil((answer + size + GUARD) / 8) * 8;
+    const missing = from + given.buffer.byteLength + lent.buffer.byteLength - exports.memory.buffer.byteLength;
     if (missing > 0) exports.memory.grow(Math.ceil(missing / 65536));
     const memory = new Uint8Array(exports.memory.buffer);
     const to = memory.length - lent.buffer.byteLength;
-    const guarded = memory.subarray(answer - GUARD, answer + LAYOUTS.girderbasil_output.size + GUARD).fill(0xa5);
+    const guarded = memory.subarray(answer - GUARD, answer + size + GUARD).fill(FILLING);
     const places = [[given, from], [lent, to]].map(([part, address]) => {
         const place = memory.subarray(address, address + part.buffer.byteLength);
         place.set(new Uint8Array(part.buffer.buffer));
@@ -67,11 +71,11 @@ function callExport(exports, name, [, , Filled, size], given, lent) {
 
     exports[name](answer, ...places[0].words, ...(Filled === undefined ? [] : places[1].words));
 
-    if ([...guarded.subarray(0, GUARD), ...guarded.subarray(-GUARD)].some((byte) => byte !== 0xa5)) {
+    if ([...guarded.subarray(0, GUARD), ...guarded.subarray(-GUARD)].some((byte) => byte !== FILLING)) {
         throw new Error(`${name} wrote beside its answer`);
     }
     for (const { part, place } of places) new Uint8Array(part.buffer.buffer).set(place);
-    return memory.slice(answer, answer + size);
+    return memory.slice(answer, answer + fields);
 }
 
 const module = await WebAssembly.compile(readFileSync(process.argv[2]));

@@ -35,7 +35,7 @@ fn kit_tool(name: &str) -> Command {
     Command::new(link)
 }
 
-/// Links all of a target's archive into a shared library, as a phone loads it, by the linker that its system has.
+/// Links all of a target's archive into a shared library, as a phone loads it, by LLVM's linker for its system.
 fn shared_library(target: &str) -> PathBuf {
     let library = common::folder("archives").join(target);
     let mut linker = if target.contains("apple") {
@@ -191,9 +191,16 @@ fn a_kit_without_a_processor_is_one_line() {
 fn copy_of_repository(name: &str) -> PathBuf {
     built(X86_64);
     let copy = common::folder(name);
+    let commands = r#"
+        rm -rf "$0"
+        mkdir -p "$0"/target "$0"/tools
+        cp -R crates crates.txt include "$0"
+        cp tools/archive "$0"/tools
+        cp -R target/rlib target/stamp "$0"/target
+    "#;
     let mut copying = Command::new("sh");
-    copying.args(["-c", "rm -rf \"$0\" && mkdir -p \"$0\"/target \"$0\"/tools && cp -R crates crates.txt include \"$0\" && cp tools/archive \"$0\"/tools && cp -R target/rlib target/stamp \"$0\"/target"]);
-    let output = common::output(copying.arg(&copy).current_dir(common::top()));
+    copying.args(["-ec", commands]).arg(&copy);
+    let output = common::output(copying.current_dir(common::top()));
     common::assert_silent(&output, "a copy");
     copy
 }
