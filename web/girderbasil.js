@@ -69,7 +69,7 @@ const PAGE = 65536;
  */
 export async function load(source) {
     const module = /** @type {WebAssembly.Module} */ (
-        kindOf(source) === "WebAssembly.Module" ? source : await WebAssembly.compile(bytesOf(source))
+        tagOf(source) === "WebAssembly.Module" ? source : await WebAssembly.compile(bytesOf(source))
     );
     const names = WebAssembly.Module.exports(module).map((one) => one.name);
     const missing = [...FUNCTIONS, "memory", "__heap_base"].find((name) => !names.includes(name));
@@ -87,14 +87,14 @@ function bytesOf(source) {
     if (ArrayBuffer.isView(source)) {
         return new Uint8Array(source.buffer, source.byteOffset, source.byteLength);
     }
-    if (kindOf(source) !== "ArrayBuffer") {
+    if (tagOf(source) !== "ArrayBuffer") {
         throw new TypeError(`load: the source must be the bytes of girderbasil.wasm or a module, not ${described(source)}`);
     }
     return source;
 }
 
 /** The library, with memory of its own. `load` makes one. */
-export class Girderbasil {
+class Girderbasil {
     /** @type {any} */
     #exports;
     /** @type {WebAssembly.Memory} */
@@ -113,9 +113,9 @@ export class Girderbasil {
      * @returns {Answer}
      */
     read(sheet, table) {
-        expectKind("read", "sheet", sheet, "Uint8Array");
-        expectKind("read", "table", table, "Uint32Array");
-        return answerAt(this.#call("girderbasil_read", sheet, table));
+        const given = viewOf("read", "sheet", sheet, Uint8Array);
+        const lent = viewOf("read", "table", table, Uint32Array);
+        return answerAt(this.#call("girderbasil_read", given, lent));
     }
 
     /**
@@ -124,8 +124,7 @@ export class Girderbasil {
      * @returns {Scoring}
      */
     score(table) {
-        expectKind("score", "table", table, "Uint32Array");
-        return scoringAt(this.#call("girderbasil_score", table));
+        return scoringAt(this.#call("girderbasil_score", viewOf("score", "table", table, Uint32Array)));
     }
 
     /**
@@ -135,9 +134,9 @@ export class Girderbasil {
      * @returns {Answer}
      */
     writeReport(table, report) {
-        expectKind("writeReport", "table", table, "Uint32Array");
-        expectKind("writeReport", "report", report, "Uint8Array");
-        return answerAt(this.#call("girderbasil_write_report", table, report));
+        const given = viewOf("writeReport", "table", table, Uint32Array);
+        const lent = viewOf("writeReport", "report", report, Uint8Array);
+        return answerAt(this.#call("girderbasil_write_report", given, lent));
     }
 
     /**
@@ -146,8 +145,7 @@ export class Girderbasil {
      * @returns {Output}
      */
     diagnose(sheet) {
-        expectKind("diagnose", "sheet", sheet, "Uint8Array");
-        return outputAt(this.#call("girderbasil_diagnose", sheet));
+        return outputAt(this.#call("girderbasil_diagnose", viewOf("diagnose", "sheet", sheet, Uint8Array)));
     }
 
     /**
@@ -186,12 +184,12 @@ export class Girderbasil {
      * @returns {Storage}
      */
     #storage(like, address) {
-        const Kind = kindOf(like) === "Uint8Array" ? Uint8Array : Uint32Array;
+        const Kind = like instanceof Uint8Array ? Uint8Array : Uint32Array;
         return new Kind(this.#memory.buffer, address, like.length);
     }
 
     /**
-     * Has the memory reach to an address. Where there is no more, WebAssembly throws a RangeError.
+     * Has the memory reach to an address. Where there is not so much, WebAssembly throws a RangeError.
      * @param {number} end
      */
     #reserve(end) {
@@ -265,26 +263,51 @@ function refusalAt(view, layout) {
 }
 
 /**
+ * What every array of numbers says of itself: its kind and where it stands. Taken from their common ancestor, it can be
+ * asked of any value, also of an array from another frame, whose constructor is another.
+ * @param {string | symbol} property
+ * @returns {(value: unknown) => any}
+ */
+function arrayProperty(property) {
+    const ancestor = Object.getPrototypeOf(Uint8Array.prototype);
+    const { get } = /** @type {PropertyDescriptor} */ (Object.getOwnPropertyDescriptor(ancestor, property));
+    return (value) => /** @type {() => any} */ (get).call(value);
+}
+
+const kindOf = arrayProperty(Symbol.toStringTag);
+const bufferOf = arrayProperty("buffer");
+const offsetOf = arrayProperty("byteOffset");
+const lengthOf = arrayProperty("length");
+
+/**
+ * A plain view of an argument's elements.
+ * @template {Uint8ArrayConstructor | Uint32ArrayConstructor} Kind
  * @param {string} method
  * @param {string} name
  * @param {unknown} value
- * @param {string} kind
+ * @param {Kind} Kind
+ * @returns {InstanceType<Kind>}
  */
-function expectKind(method, name, value, kind) {
-    if (!ArrayBuffer.isView(value) || kindOf(value) !== kind) {
-        throw new TypeError(`${method}: the ${name} must be a ${kind}, not ${described(value)}`);
+function viewOf(method, name, value, Kind) {
+    if (kindOf(value) !== Kind.name) {
+        throw new TypeError(`${method}: the ${name} must be a ${Kind.name}, not ${described(value)}`);
     }
-}
-
-/**
- * The name of a value's built-in type, also of one from another frame, whose constructors are others.
- * @param {unknown} value
- */
-function kindOf(value) {
-    return Object.prototype.toString.call(value).slice("[object ".length, -1);
+    try {
+        return /** @type {any} */ (new Kind(bufferOf(value), offsetOf(value), lengthOf(value)));
+    } catch {
+        throw new TypeError(`${method}: the ${name}'s memory is gone: its buffer was handed over or made smaller`);
+    }
 }
 
 /** @param {unknown} value */
 function described(value) {
-    return value === undefined ? "nothing" : `a value of type ${kindOf(value)}`;
+    return value === undefined ? "nothing" : `a value of type ${tagOf(value)}`;
+}
+
+/**
+ * The name of a value's type.
+ * @param {unknown} value
+ */
+function tagOf(value) {
+    return Object.prototype.toString.call(value).slice("[object ".length, -1);
 }

@@ -1,10 +1,10 @@
-// Tests of girderbasil.js, for node's own test runner: `tools/archive wasm32`, then `node --test web/`.
+// Tests of girderbasil.js, for node's own test runner: `tools/archive wasm32`, then `node --test web/girderbasil.test.js`.
 import assert from "node:assert/strict";
 import { readFileSync } from "node:fs";
 import { test } from "node:test";
 import { runInNewContext } from "node:vm";
 
-import { Girderbasil, LINE, load, MOST_REPORT_BYTES, MOST_ROWS, ROW } from "./girderbasil.js";
+import { LINE, load, MOST_REPORT_BYTES, MOST_ROWS, ROW } from "./girderbasil.js";
 
 const beside = (path) => readFileSync(new URL(path, import.meta.url));
 const wasm = beside("../target/archive/wasm32/girderbasil.wasm");
@@ -95,22 +95,47 @@ test("an answer is its owner's: a later call leaves it alone", () => {
     assert.deepEqual(scoring.scores, [47, 83, 0, 0, 0, 0]);
 });
 
-test("anything of any length is answered", () => {
-    const large = new Uint8Array(20_000_000).fill(32);
-    assert.deepEqual(library.read(large, new Uint32Array(1)), { number: 1, row: 0, column: 0, count: 0 });
-    assert.equal(library.diagnose(large).number, 1);
-    assert.equal(library.score(new Uint32Array(5_000_000)).number, 1);
-    assert.deepEqual(library.read(sheet, new Uint32Array(5_000_000)), { ...accepted, count: 11 });
-    assert.equal(library.writeReport(tableOf(sheet), large).count, 195);
-    assert.equal(library.score(new Uint32Array(0)).number, 1);
-    assert.equal(library.writeReport(new Uint32Array(0), new Uint8Array(0)).number, 1);
+test("memory grows with what is given and what is lent", async () => {
+    const bytes = new Uint8Array(20_000_000).fill(32);
+    const numbers = new Uint32Array(5_000_000);
+    const house = tableOf(sheet);
+    const refusedWhole = { number: 1, row: 0, column: 0, count: 0 };
+    const calls = [
+        [(fresh) => fresh.read(bytes, new Uint32Array(1)), refusedWhole],
+        [(fresh) => fresh.diagnose(bytes).number, 1],
+        [(fresh) => fresh.score(numbers).number, 1],
+        [(fresh) => fresh.read(sheet, numbers), { ...accepted, count: 11 }],
+        [(fresh) => fresh.writeReport(house, bytes), { ...accepted, count: 195 }],
+    ];
+    for (const [call, answer] of calls) assert.deepEqual(call(await load(wasm)), answer);
+    assert.equal(text(bytes.subarray(0, 196)), report + " ");
 });
 
-test("arrays of node and of other frames are arrays", () => {
+test("nothing may be given, and nothing lent", () => {
+    const nothing = { number: 1, row: 0, column: 0, count: 0 };
+    assert.deepEqual(library.read(new Uint8Array(0), new Uint32Array(0)), nothing);
+    assert.deepEqual(library.writeReport(new Uint32Array(0), new Uint8Array(0)), nothing);
+    assert.equal(library.score(new Uint32Array(0)).number, 1);
+    assert.equal(library.diagnose(new Uint8Array(0)).number, 1);
+});
+
+test("arrays of node, of other frames and of other classes are arrays", () => {
     assert.equal(library.diagnose(Buffer.from(sheet)).count, 195);
     const foreign = runInNewContext("new Uint8Array(1000)");
     foreign.set(sheet);
     assert.equal(library.diagnose(foreign.subarray(0, sheet.length)).count, 195);
+    class Sheet extends Uint8Array {
+        get [Symbol.toStringTag]() {
+            return "Sheet";
+        }
+    }
+    assert.equal(library.diagnose(Sheet.from(sheet)).count, 195);
+});
+
+test("an array is as long as it is, whatever it says", () => {
+    library.diagnose(sheet);
+    const line = Object.defineProperty(sheet.slice(0, LINE), "length", { value: sheet.length });
+    assert.deepEqual({ ...library.diagnose(line), bytes: null }, { number: 3, row: 2, column: 1, count: LINE, bytes: null });
 });
 
 test("another kind of argument is a TypeError that names it", () => {
@@ -123,7 +148,8 @@ test("another kind of argument is a TypeError that names it", () => {
         diagnose: [["sheet", sheet]],
     };
     const never = [undefined, null, 7, 7n, "       1", true, [1, 2], {}, new ArrayBuffer(8), new DataView(new ArrayBuffer(8)),
-        new Int32Array(8), new Uint8ClampedArray(8), new Uint16Array(8), { length: 8, [Symbol.toStringTag]: "Uint32Array" }];
+        new Int32Array(8), new Uint8ClampedArray(8), new Uint16Array(8), { length: 8, [Symbol.toStringTag]: "Uint32Array" },
+        Object.defineProperty(new Int32Array(8), Symbol.toStringTag, { value: "Uint32Array" })];
     for (const [method, parameters] of Object.entries(methods)) {
         for (const [index, [name, right]] of parameters.entries()) {
             const other = right instanceof Uint8Array ? table : bytes;
@@ -138,12 +164,20 @@ test("another kind of argument is a TypeError that names it", () => {
     assert.throws(() => library.read(sheet), { name: "TypeError", message: "read: the table must be a Uint32Array, not nothing" });
 });
 
+test("an array whose memory is gone is a TypeError that names it", () => {
+    const gone = new Uint8Array(sheet);
+    structuredClone(gone.buffer, { transfer: [gone.buffer] });
+    const table = new Uint32Array(88);
+    const message = (method, name) => new RegExp(`^${method}: the ${name}'s memory is gone`);
+    assert.throws(() => library.diagnose(gone), { name: "TypeError", message: message("diagnose", "sheet") });
+    assert.throws(() => library.writeReport(table, gone), { name: "TypeError", message: message("writeReport", "report") });
+});
+
 test("the module is loaded from its bytes or compiled", async () => {
     const compiled = await WebAssembly.compile(wasm);
     const buffer = new Uint8Array(wasm).buffer;
     for (const source of [wasm, new Uint8Array(wasm), buffer, new DataView(buffer), compiled]) {
         const loaded = await load(source);
-        assert.ok(loaded instanceof Girderbasil);
         assert.equal(loaded.diagnose(sheet).count, 195);
     }
 });

@@ -29,6 +29,12 @@ pub fn folder(name: &str) -> PathBuf {
     folder
 }
 
+/// The same, with nothing in it from an earlier run.
+pub fn empty_folder(name: &str) -> PathBuf {
+    fs::remove_dir_all(folder(name)).expect("it can be removed");
+    folder(name)
+}
+
 /// A compiler of C or C++ to which every warning is an error.
 pub fn compiler(name: &str, standard: &str, include: &Path) -> Command {
     let mut command = Command::new(name);

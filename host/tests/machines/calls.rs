@@ -272,7 +272,8 @@ fn under_node_the_javascript_answers_as_the_model_does() {
 fn under_node_the_javascript_passes_its_own_tests() {
     module();
     let mut node = Command::new("node");
-    let output = common::output(node.arg("--test").arg(common::top().join("web")));
+    let tests = common::top().join("web/girderbasil.test.js");
+    let output = common::output(node.arg("--test").arg(tests));
     let printed = String::from_utf8_lossy(&output.stdout);
     assert!(output.status.success(), "{printed}");
     assert!(!printed.contains("# tests 0"), "it has none");

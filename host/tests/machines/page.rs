@@ -5,9 +5,9 @@ use std::path::{Path, PathBuf};
 use std::process::Command;
 
 use girderbasil_host::random::Random;
-use girderbasil_host::{model, worked};
+use girderbasil_host::{MOST_REPORT_BYTES, MOST_ROWS, model, worked};
 
-use crate::{ARM64, X86_64, built, common, compiler, module, node};
+use crate::{ARM64, X86_64, built, common, compiler, kit_tool, module, node};
 
 pub const PAGE: &str = include_str!("../../../docs/PHONE.md");
 
@@ -20,6 +20,18 @@ fn code(language: &str) -> &'static str {
     piece
         .unwrap_or_else(|| panic!("the page has code in {language}"))
         .0
+}
+
+/// Whether the page says something, however its lines are broken.
+pub fn says(words: &str) -> bool {
+    let page: Vec<&str> = PAGE.split_whitespace().collect();
+    page.join(" ").contains(words)
+}
+
+#[test]
+fn the_page_has_the_sizes_to_lend() {
+    assert!(says(&format!("Lend it 8 · {MOST_ROWS} numbers")));
+    assert!(says(&format!("Lend it {MOST_REPORT_BYTES} bytes")));
 }
 
 /// Files with sheets that are scored and sheets that are refused, and what is printed for all of them together.
@@ -94,6 +106,26 @@ fn from_java_a_sheet_is_diagnosed() {
 fn on_arm64_from_java_a_shared_library_is_linked() {
     let folder = common::folder("java-arm64");
     shared_library(ARM64, &folder);
+}
+
+#[test]
+fn the_bridging_header_compiles_for_ios() {
+    let header = common::folder("ios").join("bridging.h");
+    fs::write(&header, code("objc")).expect("the line is written");
+    let mut compiler = kit_tool("clang");
+    compiler
+        .args([
+            "--target=arm64-apple-ios13",
+            "-x",
+            "objective-c",
+            "-std=c11",
+        ])
+        .args(["-Wall", "-Werror", "-fsyntax-only", "-nostdinc", "-isystem"])
+        .arg(common::top().join("tools/freestanding"))
+        .arg("-I")
+        .arg(common::top().join("include"))
+        .arg(header);
+    common::assert_silent(&common::output(&mut compiler), "the bridging header");
 }
 
 #[test]

@@ -1,0 +1,3 @@
+/* What include/girderbasil.h uses of C's <stdint.h>, for a compiler that has no C library beside it. */
+typedef __UINT8_TYPE__ uint8_t;
+typedef __UINT32_TYPE__ uint32_t;
