@@ -181,7 +181,7 @@ fn the_refusals_of_the_document_are_told_and_explained() {
     let document = refusals();
     let mut numbers = Vec::new();
     for row in document.lines() {
-        let cells = cells(row);
+        let cells = common::cells(row);
         let [_, number, word, when, example, told, _] = cells[..] else {
             continue;
         };
@@ -211,17 +211,12 @@ fn refusals() -> String {
     fs::read_to_string(common::top().join("docs/REFUSALS.md")).expect("it is there")
 }
 
-/// The cells of a table's row, between an empty one at either end.
-fn cells(row: &str) -> Vec<&str> {
-    row.split('|').map(str::trim).collect()
-}
-
 /// What the document says that a verdict means.
 fn meaning(document: &str, verdict: u32) -> &str {
     let name = format!("verdict {verdict}");
     document
         .lines()
-        .map(cells)
+        .map(common::cells)
         .find(|cells| cells.get(1) == Some(&name.as_str()))
         .expect("the document has every verdict")[3]
 }

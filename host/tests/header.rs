@@ -113,19 +113,3 @@ fn two_fields_exchanged_are_seen() {
     }
     assert!(met >= 12, "{met}");
 }
-
-#[test]
-fn the_archive_has_the_functions_of_the_header_and_no_more() {
-    let output = Command::new("nm")
-        .args(["-g", "--defined-only", "-P", env!("GIRDERBASIL_ARCHIVE")])
-        .output()
-        .expect("`nm` runs");
-    let printed = String::from_utf8(output.stdout).expect("it prints text");
-    let mut defined: Vec<&str> = printed
-        .lines()
-        .filter(|line| !line.ends_with(':'))
-        .filter_map(|line| line.split_whitespace().next())
-        .collect();
-    defined.sort_unstable();
-    assert_eq!(defined, functions());
-}

@@ -128,6 +128,11 @@ pub fn run_scoring_program(sheet: &[u8]) -> Output {
     run(&mut Command::new(scoring_program()), sheet)
 }
 
+/// The cells of a row of a page's table, between an empty one at either end.
+pub fn cells(row: &str) -> Vec<&str> {
+    row.split('|').map(str::trim).collect()
+}
+
 /// A sheet, damaged or not, as itself or for the table it has.
 pub fn any_sheet(random: &mut Random) -> Vec<u8> {
     let table = damage::any_table(random);

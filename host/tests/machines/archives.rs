@@ -264,8 +264,7 @@ attributes #0 = {{ nounwind \"target-cpu\"=\"x86-64\" {attribute} }}"
             let said = text(&output.stderr);
             assert_eq!(output.status.code(), Some(2), "{line}{attribute}: {said}");
             assert!(said.ends_with("may be for x86-64 alone\n"), "{said}");
-            let left = fs::read_dir(written.join(target)).map_or(0, Iterator::count);
-            assert_eq!(left, 0, "{line}{attribute} for {target}");
+            assert!(!written.join(target).exists(), "{line}{attribute}");
         }
     }
 }
@@ -278,7 +277,7 @@ fn a_function_that_the_header_lacks_is_refused() {
     let said = text(&output.stderr);
     assert_eq!(output.status.code(), Some(2), "{said}");
     assert!(said.ends_with("declares no girderbasil_other that answers a struct\n"));
-    assert!(!written.join("aarch64-linux-gnu/libgirderbasil.a").exists());
+    assert!(!written.join("aarch64-linux-gnu").exists());
 }
 
 /// Copies to a folder what the tool uses of the repository, and more that is named.

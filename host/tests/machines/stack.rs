@@ -9,20 +9,18 @@ use crate::common::header;
 use crate::page::PAGE;
 use crate::{ARM64, X86_64, common, program, script};
 
-/// The cells of a row of a table.
-fn cells(row: &str) -> Vec<&str> {
-    row.trim_matches('|').split('|').map(str::trim).collect()
-}
-
 /// What the page says for a machine: each function with its kilobytes.
 fn said(machine: &str) -> Vec<String> {
-    let rows: Vec<Vec<&str>> = PAGE.lines().map(cells).collect();
-    let functions = rows.iter().find(|row| row.len() == 5 && row[0].is_empty());
-    let row = rows.iter().find(|row| row.len() == 5 && row[0] == machine);
+    let mut rows = PAGE.lines().map(common::cells).filter(|row| row.len() > 2);
+    // The heads of the other tables have something in their first cell.
+    let functions = rows.find(|row| row[1].is_empty());
+    let row = rows.find(|row| row[1] == machine);
     let functions = functions.expect("the page has a table of functions");
     let row = row.expect("the page has the machine");
-    let pairs = functions[1..].iter().zip(&row[1..]);
+    assert_eq!(row.len(), functions.len(), "{machine}");
+    let pairs = functions.iter().zip(&row).skip(2);
     pairs
+        .filter(|(function, _)| !function.is_empty())
         .map(|(function, said)| format!("{} {said}", function.trim_matches('`')))
         .collect()
 }
