@@ -3,3 +3,4 @@ pub mod Refusals
 pub mod Places
 pub mod Lengths
 pub mod Parts
+pub mod Lists

@@ -1,5 +1,6 @@
 -- The definitions that promises about answers cite, and the houses of the examples.
 pub mod Told
+pub mod Lists
 pub mod First
 pub mod Length
 pub mod Text

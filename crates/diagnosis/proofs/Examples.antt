@@ -11,9 +11,10 @@ use Rattle.answer.specs.First.{first}
 use Rattle.answer.specs.Length.{rowsIn}
 use Rattle.answer.specs.Text.{bytes}
 use Rattle.answer.specs.Houses.{p1Sheet, p1, twoStoreys}
+use Rattle.answer.specs.Lists.{joined, part, over}
 use Rattle.sheet.specs.Field.{digitAfter, after, field, isNumber, value, digitOrSpace, printed}
-use Rattle.sheet.specs.Line.{joined, part, line}
-use Rattle.sheet.specs.Sheet.{over, fieldAt, misprinted, numbersOf, reading, linesOf}
+use Rattle.sheet.specs.Line.{line}
+use Rattle.sheet.specs.Sheet.{fieldAt, misprinted, numbersOf, reading, linesOf}
 use Rattle.survey.specs.Table.{wallRows}
 use Rattle.survey.specs.Ranges as ranges
 use Rattle.survey.specs.Judgement.{_then_, test, outside, leftmost, wrongColumn, houseFault, storeyFault, endsFault, storeyBefore, wallFault, within, partsFault, rowFault, judging}

@@ -9,8 +9,8 @@ use lib.ListN.{length, getD}
 use lib.Dec.{lit≤}
 use borrow.Author.Tests.{le-ltb}
 use Rattle.answer.specs.Told.{counted}
-use Rattle.sheet.specs.Line.{joined}
-use Rattle.sheet.specs.Sheet.{over, tooLarge, writing, afterWriting}
+use Rattle.answer.specs.Lists.{joined, over}
+use Rattle.sheet.specs.Sheet.{tooLarge, writing, afterWriting}
 use Rattle.sheet.proofs.Answers.{Writable, writable-accepted}
 use Rattle.survey.specs.Table.{storeys}
 use Rattle.survey.specs.Judgement.{judging}

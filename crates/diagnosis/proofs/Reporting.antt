@@ -12,9 +12,9 @@ use Rattle.answer.specs.declared.Answer.{Answer}
 use Rattle.answer.specs.declared.Answer.the-variants.{Count, Refused}
 use Rattle.answer.specs.Told.{Told, told, counted, refusal, accepts, lent-space-short}
 use Rattle.answer.specs.Length.{rowsIn}
-use Rattle.sheet.specs.Line.{joined, part}
-use Rattle.sheet.specs.Sheet.{over, reading, afterReading, linesOf, afterPrinting}
-use Rattle.sheet.proofs.Lists.{over-length, over-front}
+use Rattle.answer.specs.Lists.{joined, part, over}
+use Rattle.answer.proofs.Lists.{over-length, over-front}
+use Rattle.sheet.specs.Sheet.{reading, afterReading, linesOf, afterPrinting}
 use Rattle.sheet.proofs.Sheets.{numbers-length, line-length, lines-length, printing-rows}
 use Rattle.sheet.proofs.Answers.{Readable, accepted-readable, readable-accepted, never-short, read-refused, read-accepted}
 use Rattle.survey.specs.Judgement.{judging}

@@ -8,9 +8,9 @@ use native.Mathlib.Omega.{arith}
 use lib.ListN.{length, getD, take, drop, set, length-append, drop-of-length-le}
 use lib.Seq.{length-take-le, take-suc, take-all, take-at, drop-at, drop-drop}
 use borrow.Rule.Slice.PartMut.{putMid, postOf}
-use Rattle.sheet.specs.Line.{joined}
-use Rattle.sheet.specs.Sheet.{over, afterPrinting}
-use Rattle.sheet.proofs.Lists.{over-part, over-set, over-whole, part-put, joined-length, joined-over}
+use Rattle.answer.specs.Lists.{joined, over}
+use Rattle.answer.proofs.Lists.{over-part, over-set, over-whole, part-put, joined-length, joined-over}
+use Rattle.sheet.specs.Sheet.{afterPrinting}
 use Rattle.sheet.proofs.Sheets.{printing-rows}
 use Rattle.survey.specs.Table.{storeys}
 use Rattle.method.specs.declared.deterioration.Fraction.{Fraction}

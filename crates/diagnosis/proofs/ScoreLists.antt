@@ -10,9 +10,8 @@ use lib.ListN.{length, set, length-append, getD, drop, List·getD-append}
 use lib.Dec.{eqb}
 use borrow.Author.Tests.{eq-eqb}
 use Rattle.answer.specs.Told.{Told, accepts}
-use Rattle.sheet.specs.Line.{joined}
-use Rattle.sheet.specs.Sheet.{over}
-use Rattle.sheet.proofs.Lists.{over-set, joined-length, joined-part, part-at}
+use Rattle.answer.specs.Lists.{joined, over}
+use Rattle.answer.proofs.Lists.{over-set, joined-length, joined-part, part-at}
 use Rattle.survey.specs.Table.{storeys}
 use Rattle.survey.specs.Judgement.{judging}
 use Rattle.method.proofs.Comparisons.{score-most}

@@ -12,7 +12,8 @@ use Rattle.answer.specs.declared.Answer.the-variants.{Count}
 use Rattle.answer.specs.Told.{told, counted, lent-space-short}
 use Rattle.answer.specs.Text.{bytes}
 use Rattle.answer.specs.Houses.{p1Sheet}
-use Rattle.sheet.specs.Sheet.{over, writing, afterWriting}
+use Rattle.answer.specs.Lists.{over}
+use Rattle.sheet.specs.Sheet.{writing, afterWriting}
 use Rattle.survey.specs.Table.{cell, storeys}
 use Rattle.survey.specs.Judgement.{judging, within}
 use Rattle.method.specs.Worked.{worked, expected}

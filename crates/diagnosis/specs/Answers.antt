@@ -4,7 +4,7 @@ use mathlib.Core.Bool.{Bool, true, false, cond}
 use mathlib.Core.List.{List, [], _∷_}
 use Prim.Native.Nat.{ℕ, _*_}
 use Rattle.answer.specs.Told.{accepts}
-use Rattle.sheet.specs.Sheet.{over}
+use Rattle.answer.specs.Lists.{over}
 use Rattle.survey.specs.Table.{storeys}
 use Rattle.survey.specs.Judgement.{judging}
 use Rattle.diagnosis.specs.declared.scores.Outcome.{Outcome}

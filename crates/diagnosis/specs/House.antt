@@ -5,7 +5,7 @@ use mathlib.Core.List.{List, [], _∷_, _++_}
 use Prim.Native.Nat.{ℕ, zero, suc, _+_, _*_, _/_, max, min}
 use lib.ListN.{length}
 use lib.Dec.{eqb}
-use Rattle.sheet.specs.Line.{joined}
+use Rattle.answer.specs.Lists.{joined}
 use Rattle.survey.specs.Table.{cell, storeys, endsRow, partsRow}
 use Rattle.survey.specs.Walls.{storeyWalls}
 use Rattle.method.specs.declared.deterioration.Fraction.{Fraction}

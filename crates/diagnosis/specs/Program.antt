@@ -5,7 +5,8 @@ use Prim.Native.Nat.{ℕ, _*_}
 use lib.ListN.{length, replicate}
 use Rattle.answer.specs.Told.{Told, accepts}
 use Rattle.answer.specs.Length.{mostRows, rowsIn}
-use Rattle.sheet.specs.Sheet.{over, numbersOf, reading}
+use Rattle.answer.specs.Lists.{over}
+use Rattle.sheet.specs.Sheet.{numbersOf, reading}
 use Rattle.diagnosis.specs.Report.{reportBytes, reporting, refusalLine}
 
 -- The program reads into a table of its own, as long as the longest.

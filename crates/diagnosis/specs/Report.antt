@@ -7,8 +7,9 @@ use Prim.Native.Nat.{ℕ, _+_, _-_, _*_, _/_}
 use lib.ListN.{length}
 use lib.Dec.{ltb}
 use Rattle.answer.specs.Told.{Told, counted, refusal, accepts, lent-space-short}
-use Rattle.sheet.specs.Line.{joined, line}
-use Rattle.sheet.specs.Sheet.{over, linesOf}
+use Rattle.answer.specs.Lists.{joined, over}
+use Rattle.sheet.specs.Line.{line}
+use Rattle.sheet.specs.Sheet.{linesOf}
 use Rattle.survey.specs.Table.{storeys}
 use Rattle.survey.specs.Judgement.{judging}
 use Rattle.method.specs.declared.deterioration.Fraction.{Fraction}

@@ -19,7 +19,7 @@ ghost use mathlib.Core.List.{_++_};
 ghost use Prim.Native.Nat.{_≤_, _<_, _*_};
 ghost use lib.ListN.{length};
 ghost use Rattle.answer.specs.Told.{told};
-ghost use Rattle.sheet.specs.Sheet.{over};
+ghost use Rattle.answer.specs.Lists.{over};
 ghost use Rattle.method.specs.Held.{mostHeld};
 ghost use Rattle.method.specs.Required.{mostRequired};
 ghost use Rattle.survey.specs.Table.{storeys};

@@ -12,10 +12,11 @@ use Rattle.answer.specs.declared.Answer.the-variants.{Count, Refused}
 use Rattle.answer.specs.Told.{Told, told, counted, refusal, accepts, sheet-length, misprint, out-of-range, lent-space-short}
 use Rattle.answer.specs.First.{first}
 use Rattle.answer.specs.Length.{mostRows, rowsIn, Whole}
+use Rattle.answer.specs.Lists.{over}
 use Rattle.answer.proofs.Refusals.{passed, kept}
 use Rattle.answer.proofs.Places.{first-none, before-first}
 use Rattle.answer.proofs.Lengths.{rows-whole, rows-counted, rows-most}
-use Rattle.sheet.specs.Sheet.{refusalAt, over, misprinted, numbersOf, reading, afterReading, tooLarge, linesOf, writing, afterWriting}
+use Rattle.sheet.specs.Sheet.{refusalAt, misprinted, numbersOf, reading, afterReading, tooLarge, linesOf, writing, afterWriting}
 
 -- A sheet of so many lines that can be read: whole lines, not too many, nothing misprinted.
 pub record Readable (sheet : List ℕ) (lines : ℕ) : Type 0 where

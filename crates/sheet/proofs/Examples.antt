@@ -10,9 +10,10 @@ use Rattle.answer.specs.Told.{Told, counted, refusal}
 use Rattle.answer.specs.First.{first}
 use Rattle.answer.specs.Length.{rowsIn}
 use Rattle.answer.specs.Text.{bytes}
+use Rattle.answer.specs.Lists.{joined, part, over}
 use Rattle.sheet.specs.Field.{digitAfter, after, field, isNumber, value, digitOrSpace, printed}
-use Rattle.sheet.specs.Line.{joined, part, line}
-use Rattle.sheet.specs.Sheet.{over, fieldAt, misprinted, numbersOf, reading, afterReading, linesOf, tooLarge, writing, afterWriting, rowsRead, bytesWritten}
+use Rattle.sheet.specs.Line.{line}
+use Rattle.sheet.specs.Sheet.{fieldAt, misprinted, numbersOf, reading, afterReading, linesOf, tooLarge, writing, afterWriting, rowsRead, bytesWritten}
 use Rattle.sheet.specs.declared.field.Field.the-variants.{Number, Misprint}
 use Rattle.sheet.proofs.RoundTrip.{read-then-write, read-then-short, write-then-read}
 

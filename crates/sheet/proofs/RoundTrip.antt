@@ -11,13 +11,14 @@ use lib.Seq.{take-all, take-at, take-suc, getD-at}
 use borrow.Author.Tests.{ne-eqb, le-ltb, ltb-false, eqb-true, eqb-false, not-false}
 use Rattle.answer.specs.Told.{Told, counted, refusal, lent-space-short}
 use Rattle.answer.specs.Length.{rowsIn}
+use Rattle.answer.specs.Lists.{joined, part, over}
+use Rattle.answer.proofs.Lists.{part-length, part-at, part-append, joined-part, joined-same, joined-parts, joined-elements, joined-at}
 use Rattle.sheet.specs.Field.{field, isNumber, value, printed}
-use Rattle.sheet.specs.Line.{joined, part, line}
-use Rattle.sheet.specs.Sheet.{over, fieldAt, misprinted, numbersOf, reading, afterReading, linesOf, tooLarge, writing, afterWriting, rowsRead, bytesWritten}
+use Rattle.sheet.specs.Line.{line}
+use Rattle.sheet.specs.Sheet.{fieldAt, misprinted, numbersOf, reading, afterReading, linesOf, tooLarge, writing, afterWriting, rowsRead, bytesWritten}
 use Rattle.sheet.specs.declared.field.Field.{Field}
 use Rattle.sheet.specs.declared.field.Field.the-variants.{Blank, Number, Misprint}
 use Rattle.sheet.proofs.Fields.{field-below, field-printed, printed-field}
-use Rattle.sheet.proofs.Lists.{part-length, part-at, part-append, joined-part, joined-same, joined-parts, joined-elements, joined-at}
 use Rattle.sheet.proofs.Sheets.{fields, field-long, fields-length, line-length, numbers-length, lines-length}
 use Rattle.sheet.proofs.Answers.{Readable, Writable, accepted-readable, accepted-writable, readable-accepted, writable-accepted, writable-short}
 

@@ -12,12 +12,13 @@ use lib.ListN.{length, getD, set, length-append}
 use borrow.Author.Tests.{ne-eqb, lt-ltb, le-ltb}
 use borrow.Rule.Slice.PartMut.{putMid}
 use Rattle.answer.specs.First.{first}
+use Rattle.answer.specs.Lists.{joined, part, over}
 use Rattle.answer.proofs.Places.{first-is, before-first, first-most, at-first}
+use Rattle.answer.proofs.Lists.{part-again, part-whole, over-set, over-whole, joined-add, joined-same, joined-length, joined-over}
 use Rattle.sheet.specs.Field.{field, isNumber, value, printed}
-use Rattle.sheet.specs.Line.{joined, part, line}
-use Rattle.sheet.specs.Sheet.{fieldAt, misprinted, over, numbersOf, linesOf, afterPrinting}
+use Rattle.sheet.specs.Line.{line}
+use Rattle.sheet.specs.Sheet.{fieldAt, misprinted, numbersOf, linesOf, afterPrinting}
 use Rattle.sheet.specs.declared.field.Field.{Field}
-use Rattle.sheet.proofs.Lists.{part-again, part-whole, over-set, over-whole, joined-add, joined-same, joined-length, joined-over}
 
 -- A line by itself, as a sheet of one line: its fields and the byte after them.
 module _ (line : List ℕ) (long : length line ≡ 65) (column : ℕ) where

@@ -2,22 +2,19 @@
 -- told": "Reading tests 1, then 9, then 2 from the top, leftmost field first"; "The writer tests 1, 4 (..), 9".
 use Prim.Native.Nat.{ℕ, _+_, _*_, _/_, _%_}
 use mathlib.Core.Bool.{Bool, cond, not}
-use mathlib.Core.List.{List, [], _∷_, _++_}
-use lib.ListN.{length, getD, take, drop}
+use mathlib.Core.List.{List, [], _∷_}
+use lib.ListN.{length, getD, take}
 use lib.Dec.{eqb, ltb}
 use Rattle.answer.specs.Told.{Told, counted, refusal, accepts, sheet-length, misprint, out-of-range, lent-space-short}
 use Rattle.answer.specs.First.{first}
 use Rattle.answer.specs.Length.{rowsIn}
+use Rattle.answer.specs.Lists.{joined, part, over}
 use Rattle.sheet.specs.Field.{field, isNumber, value}
-use Rattle.sheet.specs.Line.{joined, part, line}
+use Rattle.sheet.specs.Line.{line}
 
 -- The refusal at a place that counts from 0, from the top and from the left, where each row has so many columns.
 unfoldable pub refusalAt : ℕ → ℕ → ℕ → Told
 refusalAt number columns at = refusal number (at / columns + 1) (at % columns + 1)
-
--- Lent storage with x written at its front: what comes later stays.
-unfoldable pub over : List ℕ → List ℕ → List ℕ
-over lent x = x ++ drop (length x) lent
 
 -- Reading
 

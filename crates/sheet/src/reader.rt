@@ -17,7 +17,8 @@ ghost use lib.ListN.{length};
 ghost use Rattle.answer.specs.Told.{told};
 ghost use Rattle.answer.specs.First.{first};
 ghost use Rattle.answer.specs.Length.{mostRows, rowsIn};
-ghost use Rattle.sheet.specs.Sheet.{misprinted, over, numbersOf, reading, afterReading};
+ghost use Rattle.answer.specs.Lists.{over};
+ghost use Rattle.sheet.specs.Sheet.{misprinted, numbersOf, reading, afterReading};
 
 // The places of a line that can be misprinted: its fields, then its last byte.
 const PLACES: usize = 9;

@@ -6,10 +6,9 @@ use native.Mathlib.Omega.{arith}
 use denote.Ref.{now}
 use lib.ListN.{length}
 use borrow.Author.Needs.{needs}
+use Rattle.answer.specs.Lists.{joined, over}
 use Rattle.answer.proofs.Parts.{lent-part, part-size}
-use Rattle.sheet.specs.Sheet.{over}
-use Rattle.sheet.specs.Line.{joined}
-use Rattle.sheet.proofs.Lists.{over-length}
+use Rattle.answer.proofs.Lists.{over-length}
 use Rattle.survey.specs.Table.{storeys}
 use Rattle.diagnosis.specs.declared.assessment.Assessment.{Assessment}
 use Rattle.diagnosis.specs.Report.{resultRows}

@@ -6,8 +6,8 @@ use native.Mathlib.Omega.{arith}
 use denote.Ref.{now}
 use lib.ListN.{length}
 use borrow.Author.Needs.{needs}
+use Rattle.answer.proofs.Lists.{over-length}
 use Rattle.sheet.specs.Sheet.{afterPrinting}
-use Rattle.sheet.proofs.Lists.{over-length}
 use Rattle.diagnosis.specs.Report.{verdictRow}
 use Rattle.diagnosis.proofs.Rows.{results-length, rows-taken, report-printed}
 use Rattle.diagnosis.proofs.AcceptedTables.{storeys-few}

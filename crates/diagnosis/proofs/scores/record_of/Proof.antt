@@ -4,8 +4,7 @@ use mathlib.Core.Path.{_≡_, refl, ap, _∙_}
 use Prim.Native.Nat.{_≤_, _-_}
 use native.Mathlib.Omega.{arith}
 use borrow.Author.Needs.{needs}
-use Rattle.sheet.specs.Sheet.{over}
-use Rattle.sheet.specs.Line.{joined}
+use Rattle.answer.specs.Lists.{joined, over}
 use Rattle.diagnosis.specs.declared.assessment.Assessment.{Assessment}
 use Rattle.diagnosis.specs.Answers.{noScores, recordOf}
 use Rattle.diagnosis.specs.House.{scores, leastOf, leastScore, houseVerdict}

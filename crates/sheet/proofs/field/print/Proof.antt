@@ -2,7 +2,7 @@
 use mathlib.Core.List.{[], _∷_}
 use Prim.Native.Nat.{_+_, _%_}
 use Rattle.sheet.specs.Field.{printed}
-use Rattle.sheet.proofs.Lists.{filled}
+use Rattle.answer.proofs.Lists.{filled}
 use native.Mathlib.Omega.{arith}
 use lib.ListN.{length-set}
 use borrow.Author.Needs.{needs}

@@ -7,9 +7,8 @@ use mathlib.Core.Path.{_≡_, refl, ap, _∙_}
 use Prim.Native.Nat.{_-_, _≤_, _+_}
 use lib.ListN.{length}
 use borrow.Author.Needs.{needs}
-use Rattle.sheet.specs.Line.{joined}
-use Rattle.sheet.specs.Sheet.{over}
-use Rattle.sheet.proofs.Lists.{joined-over, over-length}
+use Rattle.answer.specs.Lists.{joined, over}
+use Rattle.answer.proofs.Lists.{joined-over, over-length}
 use Rattle.sheet.proofs.line.print_row.Statement.{statement}
 use Rattle.sheet.proofs.line.print_row.Tie as tie
 

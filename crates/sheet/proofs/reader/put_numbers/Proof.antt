@@ -6,8 +6,8 @@ use denote.Ref.{now}
 use lib.ListN.{length, take, length-set}
 use lib.Seq.{take-all}
 use borrow.Author.Needs.{needs}
-use Rattle.sheet.specs.Sheet.{over}
-use Rattle.sheet.proofs.Lists.{over-more}
+use Rattle.answer.specs.Lists.{over}
+use Rattle.answer.proofs.Lists.{over-more}
 use Rattle.sheet.proofs.reader.put_numbers.Statement.{statement}
 use Rattle.sheet.proofs.reader.put_numbers.Tie as tie
 

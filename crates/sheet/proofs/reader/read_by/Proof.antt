@@ -7,8 +7,9 @@ use native.Mathlib.Omega.{arith}
 use Rattle.answer.specs.Length.{rowsIn, Whole}
 use Rattle.answer.proofs.Lengths.{rows-whole}
 use Rattle.answer.proofs.Places.{first-most}
-use Rattle.sheet.specs.Sheet.{misprinted, over, numbersOf}
-use Rattle.sheet.proofs.Lists.{over-front}
+use Rattle.answer.specs.Lists.{over}
+use Rattle.sheet.specs.Sheet.{misprinted, numbersOf}
+use Rattle.answer.proofs.Lists.{over-front}
 use Rattle.sheet.proofs.Sheets.{numbers-length}
 use Rattle.sheet.proofs.Answers.{reading-misprint, reading-accepted}
 use borrow.Author.Needs.{needs}

@@ -9,11 +9,11 @@ use lib.ListN.{length, length-set}
 use borrow.Author.Count.{below-none, below-more}
 use borrow.Author.Needs.{needs}
 use borrow.Author.Tests.{eq-eqb, ne-eqb}
+use Rattle.answer.specs.Lists.{joined, over}
 use Rattle.answer.proofs.Places.{first-is, first-end}
+use Rattle.answer.proofs.Lists.{over-whole, part-lent}
 use Rattle.sheet.specs.Field.{field, isNumber, value}
-use Rattle.sheet.specs.Line.{joined}
-use Rattle.sheet.specs.Sheet.{over, numbersOf, misprinted}
-use Rattle.sheet.proofs.Lists.{over-whole, part-lent}
+use Rattle.sheet.specs.Sheet.{numbersOf, misprinted}
 use Rattle.sheet.proofs.Sheets.{line-field, line-first, line-number, line-last, numbers-more, numbers-length}
 use Rattle.sheet.proofs.reader.read_line.Statement.{statement}
 use Rattle.sheet.proofs.reader.read_line.Tie as tie

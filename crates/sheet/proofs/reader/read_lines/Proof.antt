@@ -10,10 +10,10 @@ use lib.ListN.{length}
 use borrow.Author.Count.{below-none}
 use borrow.Author.Needs.{needs}
 use Rattle.answer.specs.First.{first}
+use Rattle.answer.specs.Lists.{joined, part, over}
 use Rattle.answer.proofs.Places.{first-end, first-most}
-use Rattle.sheet.specs.Line.{joined, part}
-use Rattle.sheet.specs.Sheet.{over, numbersOf, misprinted}
-use Rattle.sheet.proofs.Lists.{joined-over, over-length, joined-length, part-lent}
+use Rattle.answer.proofs.Lists.{joined-over, over-length, joined-length, part-lent}
+use Rattle.sheet.specs.Sheet.{numbersOf, misprinted}
 use Rattle.sheet.proofs.Sheets.{first-in-line, line-right, numbers-by-lines, numbers-length}
 use Rattle.sheet.proofs.reader.read_lines.Statement.{statement}
 use Rattle.sheet.proofs.reader.read_lines.Tie as tie

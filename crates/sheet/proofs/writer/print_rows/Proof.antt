@@ -6,9 +6,10 @@ use native.Mathlib.Omega.{arith}
 use lib.ListN.{length}
 use denote.Ref.{now}
 use borrow.Author.Needs.{needs}
-use Rattle.sheet.specs.Line.{joined, line}
-use Rattle.sheet.specs.Sheet.{over, linesOf}
-use Rattle.sheet.proofs.Lists.{over-length, part-lent}
+use Rattle.answer.specs.Lists.{joined, over}
+use Rattle.answer.proofs.Lists.{over-length, part-lent}
+use Rattle.sheet.specs.Line.{line}
+use Rattle.sheet.specs.Sheet.{linesOf}
 use Rattle.sheet.proofs.Sheets.{lines-length, lines-more, printing-short, printing-room}
 use Rattle.sheet.proofs.writer.print_rows.Statement.{statement}
 use Rattle.sheet.proofs.writer.print_rows.Tie as tie

@@ -9,9 +9,8 @@ use native.Mathlib.Omega.{arith}
 use lib.ListN.{length, getD, take, drop, set, length-append, length-drop, drop-of-length-le}
 use lib.Seq.{sets, sets-eq, set-split, take-at, drop-at, drop-drop, take-append-le, drop-append-le, take-all, take-take, length-take-le, take-add, take-suc, append-snoc}
 use borrow.Rule.Slice.PartMut.{putMid, postOf, post-is}
 use Rattle.answer.proofs.Parts.{lent-part, part-size, part-element}
-use Rattle.sheet.specs.Line.{joined, part}
-use Rattle.sheet.specs.Sheet.{over}
+use Rattle.answer.specs.Lists.{joined, part, over}
 
 -- As many stores as there are elements leave nothing of them.
 pub filled : (l vs : List ℕ) → length l ≡ length vs → sets l 0 vs ≡ vs
