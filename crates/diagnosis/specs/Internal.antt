@@ -1,20 +1,62 @@
 -- What only the code needs. No promise to callers and no theorem rests on these.
+use mathlib.Core.Path.{_≡_}
 use mathlib.Core.Bool.{cond}
-use mathlib.Core.List.{List}
-use Prim.Native.Nat.{ℕ, _+_}
-use Rattle.diagnosis.specs.declared.strengths.Held.{Held}
-use Rattle.diagnosis.specs.House.{endA, endB, heldWhere, inDirection, solidAtEnd, held, endHeld}
+use mathlib.Core.List.{List, [], _∷_, _++_}
+use Prim.Native.Nat.{ℕ, _+_, _*_, _/_, _%_, _<_, _≤_}
+use lib.ListN.{length, getD}
+use lib.Dec.{leb, ltb}
+use Rattle.answer.specs.Told.{Told, counted, refusal, lent-space-short}
+use Rattle.answer.specs.Length.{mostWalls}
+use Rattle.answer.specs.Lists.{joined, over}
+use Rattle.sheet.specs.Sheet.{linesOf}
+use Rattle.survey.specs.Table.{cell, storeys}
+use Rattle.survey.specs.Judgement.{judging}
+use Rattle.method.specs.declared.rows.House.{House}
+use Rattle.method.specs.Held.{heldStrength, mostHeld}
+use Rattle.method.specs.Required.{mostRequired}
+use Rattle.method.specs.Score.{verdict}
+use Rattle.diagnosis.specs.declared.strengths.HeldSums.{HeldSums}
+use Rattle.diagnosis.specs.declared.assessment.Assessment.{Assessment}
+use Rattle.diagnosis.specs.declared.assessment.HouseAssessment.{HouseAssessment}
+use Rattle.diagnosis.specs.declared.scores.Record.{Record}
+use Rattle.diagnosis.specs.Rows.{zone, houseOf, endA, endB, wallOf}
+use Rattle.diagnosis.specs.House.{share, inDirection, solidAtEnd, held, endHeld, deterioration, leastOf, assessmentWith}
+use Rattle.diagnosis.specs.Report.{resultRow, verdictRow}
 
--- The three sums over the first walls of a storey, so many, which one loop keeps.
-abbrev pub heldBy : List ℕ → ℕ → List ℕ → ℕ → ℕ → Held
-heldBy table storey walls direction n = record {
-  all = heldWhere (inDirection walls direction) table storey walls n;
-  a = heldWhere (solidAtEnd walls direction endA) table storey walls n;
-  b = heldWhere (solidAtEnd walls direction endB) table storey walls n;
+-- Premises
+
+-- The table is accepted. What the code goes by of that: one to three storeys; a row of the house, three rows a storey and one of parts at
+-- least; a zone of at most 100.
+pub record Stands (table : List ℕ) : Type 0 where
+  pub accepted : judging table .number ≡ 0
+  pub some : 1 ≤ storeys table
+  pub few : storeys table ≤ 3
+  pub long : 8 * (3 * storeys table + 2) ≤ length table
+  pub zoned : zone table ≤ 100
+
+-- And this is its house row.
+pub record HouseOf (table : List ℕ) (house : House) : Type 0 where
+  pub stands : Stands table
+  pub row : house ≡ houseOf table
+  pub counted : house .storeys ≡ storeys table
+
+-- The sums over a storey's walls
+
+-- The walls are no more than a house may have, and none is longer than a wall may be.
+pub record WallsFit (walls : List ℕ) : Type 0 where
+  pub few : length walls / 8 ≤ mostWalls
+  pub short : (row : ℕ) → row < length walls / 8 → wallOf walls row .length ≤ 20000
+
+-- The three sums over the first n walls of a storey: all walls in a direction, and the solid ones at its ends.
+abbrev pub sumsOver : House → ℕ → List ℕ → ℕ → ℕ → HeldSums
+sumsOver house storey walls direction n = record {
+  all = heldStrength (inDirection walls direction) (share house storey walls) n;
+  a = heldStrength (solidAtEnd walls direction endA) (share house storey walls) n;
+  b = heldStrength (solidAtEnd walls direction endB) (share house storey walls) n;
 }
 
--- Such sums with one wall more, given by its row, which counts so much.
-abbrev pub withWall : List ℕ → ℕ → ℕ → Held → Held
+-- Such sums with one wall more, which is given by its row and counts so much.
+abbrev pub withWall : List ℕ → ℕ → ℕ → HeldSums → HeldSums
 withWall wall direction counted sums = record {
   all = sums .all + cond (inDirection wall direction 0) counted 0;
   a = sums .a + cond (solidAtEnd wall direction endA 0) counted 0;
@@ -22,9 +64,112 @@ withWall wall direction counted sums = record {
 }
 
 -- What a storey holds in a direction, whole and at each end.
-abbrev pub storeyHeld : List ℕ → ℕ → ℕ → Held
-storeyHeld table storey direction = record {
+abbrev pub heldSums : List ℕ → ℕ → ℕ → HeldSums
+heldSums table storey direction = record {
   all = held table storey direction;
   a = endHeld table storey direction endA;
   b = endHeld table storey direction endB;
 }
+
+-- Six places
+
+-- By storey from the ground up, and in each storey direction X, then direction Y: the storey and the direction of a place from 0.
+abbrev pub storeyAt : ℕ → ℕ
+storeyAt at = at / 2 + 1
+
+abbrev pub directionAt : ℕ → ℕ
+directionAt at = at % 2 + 1
+
+-- Six values of which the first `count` are f's, and the others `none`.
+abbrev pub filled : {A : Type 0} → ℕ → A → (ℕ → A) → ℕ → A
+filled count none f at = cond (ltb at count) (f at) none
+
+unfoldable pub six : {A : Type 0} → ℕ → A → (ℕ → A) → List A
+six count none f =
+    filled count none f 0 ∷ filled count none f 1 ∷ filled count none f 2 ∷ filled count none f 3 ∷ filled count none f 4 ∷ filled count none f 5 ∷ []
+
+-- Where the house lacks the storey, nothing is held, and nothing worked out.
+abbrev pub noSums : HeldSums
+noSums = record { all = 0; a = 0; b = 0 }
+
+abbrev pub noAssessment : Assessment
+noAssessment = record { held = 0; required = 0; layout = 0; score = 0 }
+
+-- What each storey holds in each direction, by its walls.
+unfoldable pub sumsIn : List ℕ → ℕ → ℕ → HeldSums
+sumsIn table storey direction = cond (leb storey (storeys table)) (heldSums table storey direction) noSums
+
+unfoldable pub houseSums : List ℕ → List HeldSums
+houseSums table = six 6 noSums (λ at. sumsIn table (storeyAt at) (directionAt at))
+
+-- Sums by which a storey and direction can be worked out, whoever gives them: in all at most 60,000 kN, and at its ends what its walls hold there.
+pub record SumsFit (table : List ℕ) (sums : HeldSums) (storey direction : ℕ) : Type 0 where
+  pub most : sums .all ≤ mostHeld
+  pub at-a : sums .a ≡ endHeld table storey direction endA
+  pub at-b : sums .b ≡ endHeld table storey direction endB
+
+abbrev pub AllFit : List ℕ → List HeldSums → Type 0
+AllFit table sums = (at : ℕ) → at < 2 * storeys table → SumsFit table (getD sums at noSums) (storeyAt at) (directionAt at)
+
+-- What such sums say that each storey and direction holds in all.
+abbrev pub allHeld : List HeldSums → ℕ → ℕ
+allHeld sums at = getD sums at noSums .all
+
+-- A house worked out
+
+-- By what its storeys and directions hold; and by its own walls.
+abbrev pub assessmentAt : List ℕ → (ℕ → ℕ) → ℕ → Assessment
+assessmentAt table holds at = assessmentWith table (holds at) (storeyAt at) (directionAt at)
+
+abbrev pub scoresBelow : List ℕ → (ℕ → ℕ) → ℕ → List ℕ
+scoresBelow table holds count = joined count (λ at. assessmentAt table holds at .score ∷ [])
+
+unfoldable pub houseAssessmentWith : List ℕ → (ℕ → ℕ) → HouseAssessment
+houseAssessmentWith table holds = record {
+  places = six (2 * storeys table) noAssessment (assessmentAt table holds);
+  count = 2 * storeys table;
+  least = leastOf (scoresBelow table holds (2 * storeys table));
+  factor = deterioration table;
+}
+
+abbrev pub houseAssessment : List ℕ → HouseAssessment
+houseAssessment table = houseAssessmentWith table (allHeld (houseSums table))
+
+-- The record of what is worked out: six numbers of one kind, their count, and the verdict.
+abbrev pub assessmentIn : HouseAssessment → ℕ → Assessment
+assessmentIn found at = getD (found .places) at noAssessment
+
+abbrev pub each : (Assessment → ℕ) → HouseAssessment → List ℕ
+each kind found =
+    kind (assessmentIn found 0) ∷ kind (assessmentIn found 1) ∷ kind (assessmentIn found 2)
+    ∷ kind (assessmentIn found 3) ∷ kind (assessmentIn found 4) ∷ kind (assessmentIn found 5) ∷ []
+
+abbrev pub recordBy : HouseAssessment → Record
+recordBy found = record { scores = each (λ (one : Assessment). one .score) found; count = found .count; verdict = verdict (found .least) }
+
+-- The report of what is worked out: its rows, and its bytes.
+abbrev pub rowBy : HouseAssessment → ℕ → List ℕ
+rowBy found at = resultRow (storeyAt at) (directionAt at) (assessmentIn found at) (found .factor)
+
+abbrev pub rowsBy : HouseAssessment → List ℕ
+rowsBy found = joined (found .count) (rowBy found) ++ verdictRow (found .least)
+
+abbrev pub linesBy : HouseAssessment → ℕ
+linesBy found = found .count + 1
+
+abbrev pub bytesBy : HouseAssessment → List ℕ
+bytesBy found = linesOf (linesBy found) (rowsBy found)
+
+-- Its numbers fit the row of a report.
+pub record Printable (found : HouseAssessment) : Type 0 where
+  pub few : found .count ≤ 6
+  pub lower-some : 0 < found .factor .lower
+  pub held-most : (at : ℕ) → at < found .count → assessmentIn found at .held ≤ mostHeld
+  pub required-most : (at : ℕ) → at < found .count → assessmentIn found at .required ≤ mostRequired
+
+-- The answer of writing it into `lent` bytes, 9 or the count of bytes; and the lent bytes afterwards.
+unfoldable pub reportingBy : HouseAssessment → ℕ → Told
+reportingBy found lent = cond (ltb lent (65 * linesBy found)) (refusal lent-space-short 0 0) (counted (65 * linesBy found))
+
+unfoldable pub afterReportingBy : HouseAssessment → List ℕ → List ℕ
+afterReportingBy found report = cond (ltb (length report) (65 * linesBy found)) report (over report (bytesBy found))

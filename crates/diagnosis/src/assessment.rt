@@ -1,31 +1,29 @@
-// What is worked out for a storey and direction.
-use crate::strengths::Held;
-use crate::strengths::held_by;
-use crate::strengths::required_of;
-use answer::ROW;
+// What is worked out for a house, storey by storey and direction by direction. Record and report are made
+// of it.
+use crate::rows::end_part;
+use crate::rows::house_of;
+use crate::rows::items_of;
+use crate::rows::storey_of;
+use crate::rows::storey_part;
+use crate::strengths::HeldSums;
+use crate::strengths::house_sums;
+use method::Bands;
 use method::Fraction;
+use method::House;
+use method::Strengths;
 use method::band;
 use method::deterioration_factor;
 use method::floor_type;
 use method::layout_factor;
+use method::narrow_factor;
+use method::required_strength;
 use method::score;
 use survey::cell;
 use survey::columns::AGE;
-use survey::columns::END_AREA;
-use survey::columns::FLOOR_AREA;
-use survey::columns::FLOOR_TYPE;
-use survey::columns::MARKED;
-use survey::columns::PART_STOREYS;
-use survey::columns::PRESENT;
-use survey::columns::STOREYS;
-use survey::columns::VOID;
-use survey::storey_run;
 ghost use mathlib.Core.Path.{_≡_};
-ghost use Prim.Native.Nat.{_≤_};
-ghost use Rattle.survey.specs.Table.{storeys};
-ghost use Rattle.survey.specs.Judgement.{judging};
-ghost use Rattle.diagnosis.specs.House.{endHeld, required, endBand, storeyFloorType, deterioration, assessment};
-ghost use Rattle.diagnosis.specs.Internal.{storeyHeld};
+ghost use Prim.Native.Nat.{_≤_, min};
+ghost use Rattle.diagnosis.specs.House.{InHouse, endHeld, narrow, endBand, deterioration, assessmentWith};
+ghost use Rattle.diagnosis.specs.Internal.{Stands, HouseOf, SumsFit, AllFit, allHeld, houseAssessmentWith, houseAssessment};
 
 // Held strength in 0.000001 kN, required strength in 0.000000001 kN, layout factor in hundredths, score.
 pub struct Assessment {
@@ -35,84 +33,76 @@ pub struct Assessment {
     pub score: u32,
 }
 
-// A storey in both directions.
-pub struct Directions {
-    pub x: Assessment,
-    pub y: Assessment,
+// What is worked out for a house.
+pub struct HouseAssessment {
+    // By storey from the ground up, and in each direction X, then direction Y; all 0 where there is no such storey.
+    pub places: [Assessment; 6],
+    // How many of these there are: two a storey.
+    pub count: u32,
+    // The least score.
+    pub least: u32,
+    // The deterioration factor.
+    pub factor: Fraction,
 }
 
-// What is required of a storey.
-fn storey_required(table: &[u32], storey: usize) -> u64
-    requires accepted { ⌜ judging (now table) .number ≡ 0 ⌝ }
-    requires storey { ⌜ (1 ≤ storey) × (storey ≤ storeys (now table)) ⌝ }
-    ensures { λ r. ⌜ r ≡ required (now (table .entry)) storey ⌝ }
+// The house's deterioration factor.
+fn deterioration(table: &[u32]) -> Fraction
+    requires { ⌜ Stands (now table) ⌝ }
+    ensures { λ r. ⌜ r ≡ deterioration (now (table .entry)) ⌝ }
 {
-    required_of(
-        table,
-        storey,
-        cell(table, 0, STOREYS),
-        cell(table, storey, FLOOR_AREA),
-    )
+    deterioration_factor(items_of(table), cell(table, 0, AGE))
 }
 
-// The band of an end, 0 for end a and 1 for end b, whose solid walls hold so much.
-fn end_band(table: &[u32], storey: usize, direction: usize, end: usize, holds: u64) -> u32
-    requires accepted { ⌜ judging (now table) .number ≡ 0 ⌝ }
-    requires storey { ⌜ (1 ≤ storey) × (storey ≤ storeys (now table)) ⌝ }
-    requires direction { ⌜ (1 ≤ direction) × (direction ≤ 2) × (end ≤ 1) ⌝ }
+// The band of an end, 0 for end a and 1 for end b, by its storey's narrow factor and what its solid walls
+// hold.
+fn end_band(
+    table: &[u32],
+    house: House,
+    storey: usize,
+    direction: usize,
+    end: usize,
+    factor: u8,
+    holds: u64,
+) -> u32
+    requires house { ⌜ HouseOf (now table) house ⌝ }
+    requires storey { ⌜ InHouse (now table) storey direction ⌝ }
+    requires end { ⌜ end ≤ 1 ⌝ }
+    requires factor { ⌜ factor ≡ narrow (now table) storey ⌝ }
     requires holds { ⌜ holds ≡ endHeld (now table) storey direction end ⌝ }
     ensures { λ r. ⌜ r ≡ endBand (now (table .entry)) storey direction end ⌝ }
 {
-    let storeys = cell(table, 0, STOREYS) as usize;
-    let row = storeys + 1 + 2 * (storey - 1) + (direction - 1);
-    let part = cell(table, row, PART_STOREYS + end);
-    let area = cell(table, row, END_AREA + end);
-    band(holds, required_of(table, storey, part, area))
+    let part = end_part(table, house, storey, direction, end);
+    band(Strengths {
+        held: holds,
+        required: required_strength(house, part, factor),
+    })
 }
 
-// A storey's floor type, a void taken into account.
-fn storey_floor_type(table: &[u32], storey: usize) -> u32
-    requires accepted { ⌜ judging (now table) .number ≡ 0 ⌝ }
-    requires storey { ⌜ (1 ≤ storey) × (storey ≤ storeys (now table)) ⌝ }
-    ensures { λ r. ⌜ r ≡ storeyFloorType (now (table .entry)) storey ⌝ }
-{
-    floor_type(cell(table, storey, FLOOR_TYPE), cell(table, storey, VOID))
-}
-
-// The house's deterioration factor. The parts row is the last.
-pub(crate) fn deterioration(table: &[u32]) -> Fraction
-    requires { ⌜ judging (now table) .number ≡ 0 ⌝ }
-    ensures { λ r. ⌜ r ≡ deterioration (now (table .entry)) ⌝ }
-{
-    let parts = table.len() / ROW - 1;
-    deterioration_factor(
-        cell(table, parts, PRESENT),
-        cell(table, parts, MARKED),
-        cell(table, 0, AGE),
-    )
-}
-
-// One direction of a storey, which holds so much. `factor` is the house's deterioration factor.
+// A storey and direction, by what it holds. `factor` is the house's deterioration factor.
 fn assess(
     table: &[u32],
-    sums: Held,
-    factor: Fraction,
+    house: House,
     storey: usize,
     direction: usize,
+    sums: HeldSums,
+    factor: Fraction,
 ) -> Assessment
-    requires accepted { ⌜ judging (now table) .number ≡ 0 ⌝ }
-    requires sums { ⌜ sums ≡ storeyHeld (now table) storey direction ⌝ }
+    requires house { ⌜ HouseOf (now table) house ⌝ }
+    requires storey { ⌜ InHouse (now table) storey direction ⌝ }
+    requires sums { ⌜ SumsFit (now table) sums storey direction ⌝ }
     requires factor { ⌜ factor ≡ deterioration (now table) ⌝ }
-    requires storey { ⌜ (1 ≤ storey) × (storey ≤ storeys (now table)) ⌝ }
-    requires direction { ⌜ (1 ≤ direction) × (direction ≤ 2) ⌝ }
-    ensures { λ r. ⌜ r ≡ assessment (now (table .entry)) storey direction ⌝ }
+    ensures { λ r. ⌜ r ≡ assessmentWith (now (table .entry)) (sums .all) storey direction ⌝ }
 {
+    let row = storey_of(table, storey);
+    let narrow = narrow_factor(house, row);
     let held = sums.all;
-    let required = storey_required(table, storey);
-    let a = end_band(table, storey, direction, 0, sums.a);
-    let b = end_band(table, storey, direction, 1, sums.b);
-    let layout = layout_factor(a, b, storey_floor_type(table, storey));
-    let score = score(held, required, layout, factor);
+    let required = required_strength(house, storey_part(house, row), narrow);
+    let ends = Bands {
+        a: end_band(table, house, storey, direction, 0, narrow, sums.a),
+        b: end_band(table, house, storey, direction, 1, narrow, sums.b),
+    };
+    let layout = layout_factor(ends, floor_type(row));
+    let score = score(Strengths { held, required }, layout, factor);
     Assessment {
         held,
         required,
@@ -121,17 +111,56 @@ fn assess(
     }
 }
 
-// Both directions of a storey, from that storey's part of the table.
-pub(crate) fn assess_storey(table: &[u32], factor: Fraction, storey: usize) -> Directions
-    requires accepted { ⌜ judging (now table) .number ≡ 0 ⌝ }
-    requires factor { ⌜ factor ≡ deterioration (now table) ⌝ }
-    requires storey { ⌜ (1 ≤ storey) × (storey ≤ storeys (now table)) ⌝ }
-    ensures x { λ r. ⌜ r .x ≡ assessment (now (table .entry)) storey 1 ⌝ }
-    ensures y { λ r. ⌜ r .y ≡ assessment (now (table .entry)) storey 2 ⌝ }
+// The lesser of two scores.
+fn lesser(one: u32, other: u32) -> u32
+    ensures { λ r. ⌜ r ≡ min one other ⌝ }
 {
-    let walls = storey_run(table, storey as u32);
-    let sums = held_by(table, storey as u32, walls);
-    let x = assess(table, sums.x, factor, storey, 1);
-    let y = assess(table, sums.y, factor, storey, 2);
-    Directions { x, y }
+    if one < other {
+        return one;
+    }
+    other
+}
+
+// An accepted table's house, by what each storey holds in each direction.
+pub(crate) fn assess_house_with(
+    table: &[u32],
+    house: House,
+    sums: [HeldSums; 6],
+) -> HouseAssessment
+    requires house { ⌜ HouseOf (now table) house ⌝ }
+    requires sums { ⌜ AllFit (now table) sums ⌝ }
+    ensures { λ r. ⌜ r ≡ houseAssessmentWith (now (table .entry)) (allHeld sums) ⌝ }
+{
+    let count = 2 * house.storeys as usize;
+    let factor = deterioration(table);
+    let none = Assessment {
+        held: 0,
+        required: 0,
+        layout: 0,
+        score: 0,
+    };
+    let mut places = [none; 6];
+    let mut least = 999;
+    let mut at = 0;
+    while at < count {
+        let found = assess(table, house, at / 2 + 1, at % 2 + 1, sums[at], factor);
+        places[at] = found;
+        least = lesser(least, found.score);
+        at += 1;
+    }
+    HouseAssessment {
+        places,
+        count: count as u32,
+        least,
+        factor,
+    }
+}
+
+// An accepted table's house, by its own walls.
+pub(crate) fn assess_house(table: &[u32]) -> HouseAssessment
+    requires { ⌜ Stands (now table) ⌝ }
+    ensures { λ r. ⌜ r ≡ houseAssessment (now (table .entry)) ⌝ }
+{
+    let house = house_of(table);
+    assess_house_with(table, house, house_sums(table, house))
 }

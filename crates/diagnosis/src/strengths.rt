@@ -1,60 +1,35 @@
-// What a storey holds in a direction, whole and at each end, and what is required of it.
+// What a storey holds in a direction, whole and at each end.
+use crate::rows::wall_of;
 use answer::ROW;
-use method::narrow_factor;
-use method::required_strength;
+use method::House;
 use method::wall_share;
 use survey::cell;
 use survey::columns::DIRECTION;
-use survey::columns::FOUNDATION;
-use survey::columns::GROUND;
-use survey::columns::JOINT;
-use survey::columns::LENGTH;
 use survey::columns::PLACE;
-use survey::columns::SHORT_SIDE;
-use survey::columns::STOREYS;
-use survey::columns::STRENGTH;
 use survey::columns::WALL_TYPE;
-use survey::columns::WEIGHT;
-use survey::columns::ZONE;
+use survey::storey_run;
 ghost use mathlib.Core.Path.{_≡_};
 ghost use mathlib.Core.Bool.{cond};
-ghost use Prim.Native.Nat.{_≤_};
+ghost use Prim.Native.Nat.{_≤_, _/_};
+ghost use lib.ListN.{length};
 ghost use Rattle.method.specs.Held.{mostHeld};
-ghost use Rattle.survey.specs.Table.{storeys};
-ghost use Rattle.survey.specs.Judgement.{judging};
-ghost use Rattle.survey.specs.Walls.{storeyWalls};
-ghost use Rattle.diagnosis.specs.House.{share, inDirection, solidAtEnd, requiredOf};
-ghost use Rattle.diagnosis.specs.Internal.{withWall, storeyHeld};
+ghost use Rattle.diagnosis.specs.House.{inDirection, solidAtEnd};
+ghost use Rattle.diagnosis.specs.Internal.{HouseOf, WallsFit, sumsOver, withWall, sumsIn, houseSums};
 
 // The type of a solid wall.
 const SOLID: u32 = 1;
 
 // What walls of a storey hold in a direction: all of them, and the solid ones at ends a and b.
-pub struct Held {
+pub struct HeldSums {
     pub all: u64,
     pub a: u64,
     pub b: u64,
 }
 
-// What a storey holds in directions X and Y.
-pub struct StoreyHeld {
-    pub x: Held,
-    pub y: Held,
-}
-
-// What a wall counts, by its row.
-fn share(table: &[u32], storey: u32, wall: &[u32]) -> u64
-    ensures { λ r. ⌜ r ≡ share (now (table .entry)) storey (now (wall .entry)) 0 ⌝ }
-{
-    wall_share(
-        cell(table, 0, STOREYS),
-        storey,
-        cell(table, 0, FOUNDATION),
-        cell(wall, 0, WALL_TYPE),
-        cell(wall, 0, JOINT),
-        cell(wall, 0, STRENGTH),
-        cell(wall, 0, LENGTH),
-    )
+// What walls of a storey hold in directions X and Y.
+pub struct BothDirections {
+    pub x: HeldSums,
+    pub y: HeldSums,
 }
 
 // Whether a wall stands in a direction.
@@ -83,7 +58,7 @@ fn solid_at_end(wall: &[u32], direction: u32, end: u32) -> bool
     place == 2 * end + 1
 }
 
-// What a wall adds to a sum that takes it or leaves it.
+// What a wall adds to a sum: what it counts, where the sum takes it.
 fn added(takes: bool, counted: u64) -> u64
     ensures { λ r. ⌜ r ≡ cond takes counted 0 ⌝ }
 {
@@ -94,57 +69,65 @@ fn added(takes: bool, counted: u64) -> u64
 }
 
 // The sums of a direction with one wall more, which counts so much. Openings count towards the whole alone.
-fn with_wall(wall: &[u32], direction: u32, counted: u64, sums: Held) -> Held
+fn with_wall(wall: &[u32], direction: u32, counted: u64, sums: HeldSums) -> HeldSums
     requires counted { ⌜ counted ≤ mostHeld ⌝ }
     requires sums { ⌜ (sums .all ≤ mostHeld) × (sums .a ≤ mostHeld) × (sums .b ≤ mostHeld) ⌝ }
     ensures { λ r. ⌜ r ≡ withWall (now (wall .entry)) direction counted sums ⌝ }
 {
-    Held {
+    HeldSums {
         all: sums.all + added(in_direction(wall, direction), counted),
         a: sums.a + added(solid_at_end(wall, direction, 0), counted),
         b: sums.b + added(solid_at_end(wall, direction, 1), counted),
     }
 }
 
-// What the walls of a storey hold.
-pub(crate) fn held_by(table: &[u32], storey: u32, walls: &[u32]) -> StoreyHeld
-    requires accepted { ⌜ judging (now table) .number ≡ 0 ⌝ }
-    requires walls { ⌜ now walls ≡ storeyWalls (now table) storey ⌝ }
-    ensures x { λ r. ⌜ r .x ≡ storeyHeld (now (table .entry)) storey 1 ⌝ }
-    ensures y { λ r. ⌜ r .y ≡ storeyHeld (now (table .entry)) storey 2 ⌝ }
+// What the walls of a storey hold in both directions.
+fn sums_over(house: House, storey: u32, walls: &[u32]) -> BothDirections
+    requires { ⌜ WallsFit (now walls) ⌝ }
+    ensures x { λ r. ⌜ r .x ≡ sumsOver house storey (now (walls .entry)) 1 (length (now (walls .entry)) / 8) ⌝ }
+    ensures y { λ r. ⌜ r .y ≡ sumsOver house storey (now (walls .entry)) 2 (length (now (walls .entry)) / 8) ⌝ }
 {
     let rows = walls.len() / ROW;
-    let mut x = Held { all: 0, a: 0, b: 0 };
-    let mut y = Held { all: 0, a: 0, b: 0 };
+    let mut x = HeldSums { all: 0, a: 0, b: 0 };
+    let mut y = HeldSums { all: 0, a: 0, b: 0 };
     let mut row = 0;
     while row < rows {
         let from = ROW * row;
         let wall = &walls[from..from + ROW];
-        let counted = share(table, storey, wall);
+        let counted = wall_share(house, storey, wall_of(wall));
         x = with_wall(wall, 1, counted, x);
         y = with_wall(wall, 2, counted, y);
         row += 1;
     }
-    StoreyHeld { x, y }
+    BothDirections { x, y }
 }
 
-// What is required of a storey or of an end of it, by the storeys of its part of the house and its area.
-pub(crate) fn required_of(table: &[u32], storey: usize, part: u32, area: u32) -> u64
-    requires accepted { ⌜ judging (now table) .number ≡ 0 ⌝ }
-    requires storey { ⌜ (1 ≤ storey) × (storey ≤ storeys (now table)) ⌝ }
-    ensures { λ r. ⌜ r ≡ requiredOf (now (table .entry)) storey part area ⌝ }
+// What a storey of an accepted table holds in both directions: nothing where the house lacks it.
+fn storey_sums(table: &[u32], house: House, storey: u32) -> BothDirections
+    requires { ⌜ HouseOf (now table) house ⌝ }
+    ensures x { λ r. ⌜ r .x ≡ sumsIn (now (table .entry)) storey 1 ⌝ }
+    ensures y { λ r. ⌜ r .y ≡ sumsIn (now (table .entry)) storey 2 ⌝ }
 {
-    let number = storey as u32;
-    let storeys = cell(table, 0, STOREYS);
-    let narrow = narrow_factor(storeys, number, cell(table, storey, SHORT_SIDE));
-    let zone = cell(table, 0, ZONE) as u8;
-    required_strength(
-        part,
-        number,
-        cell(table, 0, WEIGHT),
-        area,
-        zone,
-        cell(table, 0, GROUND),
-        narrow,
-    )
+    if house.storeys < storey {
+        let none = HeldSums { all: 0, a: 0, b: 0 };
+        return BothDirections { x: none, y: none };
+    }
+    sums_over(house, storey, storey_run(table, storey))
+}
+
+// What each storey of an accepted table holds in each direction.
+pub(crate) fn house_sums(table: &[u32], house: House) -> [HeldSums; 6]
+    requires { ⌜ HouseOf (now table) house ⌝ }
+    ensures { λ r. ⌜ r ≡ houseSums (now (table .entry)) ⌝ }
+{
+    let one = storey_sums(table, house, 1);
+    let two = storey_sums(table, house, 2);
+    let three = storey_sums(table, house, 3);
+    let one_x = one.x;
+    let one_y = one.y;
+    let two_x = two.x;
+    let two_y = two.y;
+    let three_x = three.x;
+    let three_y = three.y;
+    [one_x, one_y, two_x, two_y, three_x, three_y]
 }

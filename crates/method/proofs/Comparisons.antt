@@ -8,9 +8,10 @@ use native.Mathlib.Omega.{arith}
 use lib.Dec.{leb, lit≤}
 use borrow.Author.Tests.{leb-false, lt-leb}
 use Rattle.method.specs.declared.deterioration.Fraction.{Fraction}
+use Rattle.method.specs.declared.rows.Strengths.{Strengths}
 use Rattle.method.specs.Held.{mostHeld}
 use Rattle.method.specs.Required.{mostRequired}
-use Rattle.method.specs.LayoutFactor.{band, layoutFactor}
+use Rattle.method.specs.LayoutFactor.{NoStronger, band, layoutFactor}
 use Rattle.method.specs.Deterioration.{_at-most_}
 use Rattle.method.specs.Score.{score, scoreBeforeLayout, cappedScore, verdict}
 use Rattle.method.proofs.Branches.{cond-most, cond-least}
@@ -29,53 +30,52 @@ regroup : (a b c d : ℕ) → a * b * (c * d) ≡ a * c * (b * d)
 regroup a b c d = simp (mul-assoc, mul-left-comm)
 
 module _
-    {weaker held required more worse layout : ℕ} (f g : Fraction)
-    (less : weaker ≤ held) (grows : required ≤ more) (lower : worse ≤ layout) (falls : g at-most f)
+    {all weaker : Strengths} {layout worse : ℕ} (f g : Fraction)
+    (less : NoStronger all weaker) (lower : worse ≤ layout) (falls : g at-most f)
   where
-    crossed : 1000 * weaker * worse * g .upper * (required * f .lower) ≤ 1000 * held * layout * f .upper * (more * g .lower)
+    crossed : 1000 * weaker .held * worse * g .upper * (all .required * f .lower) ≤ 1000 * all .held * layout * f .upper * (weaker .required * g .lower)
     crossed =
-        rw (regroup (1000 * weaker * worse) (g .upper) required (f .lower), regroup (1000 * held * layout) (f .upper) more (g .lower))
-        (mul-le-mul (mul-le-mul (mul-le-mul (mul-le-mul-left 1000 less) lower) grows) falls)
+        rw (
+          regroup (1000 * weaker .held * worse) (g .upper) (all .required) (f .lower),
+          regroup (1000 * all .held * layout) (f .upper) (weaker .required) (g .lower),
+        )
+        (mul-le-mul (mul-le-mul (mul-le-mul (mul-le-mul-left 1000 (less .holds)) lower) (less .needs)) falls)
 
     -- The full score, rounding down included.
-    pub score-falls : 0 < required → 0 < f .lower → score weaker more worse g ≤ score held required layout f
+    pub score-falls : 0 < all .required → 0 < f .lower → score weaker worse g ≤ score all layout f
     unfolding score
     score-falls needs hf =
-        let lesser = 1000 * weaker * worse * g .upper in
-        let greater = 1000 * held * layout * f .upper in
+        let lesser = 1000 * weaker .held * worse * g .upper in
+        let greater = 1000 * all .held * layout * f .upper in
         le-min
-        (le-trans (min-le-left (lesser / (more * g .lower)) 999)
-        (quotient-le lesser (more * g .lower) greater (mul-pos needs hf) crossed))
-        (min-le-right (lesser / (more * g .lower)) 999)
+        (le-trans (min-le-left (lesser / (weaker .required * g .lower)) 999)
+        (quotient-le lesser (weaker .required * g .lower) greater (mul-pos needs hf) crossed))
+        (min-le-right (lesser / (weaker .required * g .lower)) 999)
 
 -- The score before the layout factor.
-pub score-before-falls : {weaker held required more : ℕ} (f g : Fraction) → weaker ≤ held → required ≤ more → g at-most f
-    → 0 < required → 0 < f .lower → scoreBeforeLayout weaker more g ≤ scoreBeforeLayout held required f
-score-before-falls f g less grows falls needs hf = score-falls f g less grows (le-refl _) falls needs hf
+pub score-before-falls : {all weaker : Strengths} (f g : Fraction) → NoStronger all weaker → g at-most f → 0 < all .required → 0 < f .lower
+    → scoreBeforeLayout weaker g ≤ scoreBeforeLayout all f
+score-before-falls f g less falls needs hf = score-falls f g less (le-refl _) falls needs hf
 
--- The full score of a storey and direction whose two ends hold so much, as more is required of it and of them, where the higher band is kept.
-pub full-score-falls : (held one other : ℕ) {required more oneRequired oneMore otherRequired otherMore : ℕ} (floor : ℕ) (f g : Fraction)
-    → required ≤ more → oneRequired ≤ oneMore → otherRequired ≤ otherMore → g at-most f
-    → max (band one oneMore) (band other otherMore) ≡ max (band one oneRequired) (band other otherRequired)
-    → 0 < required → 0 < f .lower
-    → score held more (layoutFactor (band one oneMore) (band other otherMore) floor) g
-    ≤ score held required (layoutFactor (band one oneRequired) (band other otherRequired) floor) f
-full-score-falls held one other floor f g grows one-grows other-grows falls kept needs hf =
-    score-falls f g (le-refl held) grows
-    (layout-falls floor (band-falls (le-refl one) one-grows) (band-falls (le-refl other) other-grows) kept)
-    falls needs hf
+-- The full score of a storey and direction and its two ends, as they get no stronger, where the higher band is kept.
+pub full-score-falls : {all weaker a a' b b' : Strengths} (floor : ℕ) (f g : Fraction)
+    → NoStronger all weaker → NoStronger a a' → NoStronger b b' → g at-most f → max (band a') (band b') ≡ max (band a) (band b)
+    → 0 < all .required → 0 < f .lower
+    → score weaker (layoutFactor (record { a = band a'; b = band b' }) floor) g ≤ score all (layoutFactor (record { a = band a; b = band b }) floor) f
+full-score-falls floor f g less a-less b-less falls kept needs hf =
+    score-falls f g less (layout-falls _ _ floor (band-falls a-less) (band-falls b-less) kept) falls needs hf
 
-pub score-most : (held required layout : ℕ) (f : Fraction) → score held required layout f ≤ 999
+pub score-most : (strengths : Strengths) (layout : ℕ) (f : Fraction) → score strengths layout f ≤ 999
 unfolding score
-score-most held required layout f = min-le-right (1000 * held * layout * f .upper / (required * f .lower)) 999
+score-most strengths layout f = min-le-right (1000 * strengths .held * layout * f .upper / (strengths .required * f .lower)) 999
 
 -- Of strengths up to 60,000 kN the score that the function answers is the score.
-pub capped-score : {held required : ℕ} (layout : ℕ) (f : Fraction) → held ≤ mostHeld → required ≤ mostRequired
-    → cappedScore held required layout f ≡ score held required layout f
+pub capped-score : (strengths : Strengths) (layout : ℕ) (f : Fraction) → strengths .held ≤ mostHeld → strengths .required ≤ mostRequired
+    → cappedScore strengths layout f ≡ score strengths layout f
 unfolding cappedScore
-capped-score {held} {required} layout f holds needs =
-    let held-all : min held mostHeld ≡ held = omega arith in
-    let needed-all : min required mostRequired ≡ required = omega arith in
+capped-score strengths layout f holds needs =
+    let held-all : min (strengths .held) mostHeld ≡ strengths .held = omega arith in
+    let needed-all : min (strengths .required) mostRequired ≡ strengths .required = omega arith in
     rw (held-all, needed-all)
 
 -- The verdict's number is 1 to 4, and never falls when the least score falls.

@@ -9,7 +9,7 @@ use Rattle.method.specs.Required.{topLine, constant, groundFactor, narro
 use Rattle.method.specs.LayoutFactor.{reached, band, floorType, layoutFactor}
 use Rattle.method.specs.Deterioration.{points, fraction, countedMarks, factorOf, deteriorationFactor}
 use Rattle.method.specs.Score.{score, cappedScore, verdict}
-use Rattle.method.specs.Worked.{worked, expected, layoutTable, documentTable}
+use Rattle.method.specs.Worked.{house, housePart, items, strengths, bands, worked, expected, layoutTable, documentTable}
 use Rattle.method.proofs.Requirements.{required-rises}
 use Rattle.method.proofs.Bands.{band-falls, layout-falls}
 use Rattle.method.proofs.Fractions.{deterioration-falls}
@@ -31,39 +31,42 @@ document-table = refl
 required-risen : 3_600_000_000 ≤ 43_392_000_000
 unfolding constant topLine groundFactor requiredStrength nth
 required-risen =
-    required-rises 1 1 {lighter = 2} {weight = 3} {smaller = 1000} {area = 4000} {lower = 90} {zone = 100} {firmer = 1} {ground = 2} {wider = 100}
-    {narrow = 113} (lit≤ tt) (lit≤ tt) (lit≤ tt) (lit≤ tt) (lit≤ tt) (lit≤ tt)
+    required-rises (house 1 2 90 1 1) (housePart 1 1 1000) (house 1 3 100 2 1) (housePart 1 1 4000) {wider = 100} {narrow = 113} (lit≤ tt) (lit≤ tt) (lit≤ tt)
+    (lit≤ tt) refl refl (lit≤ tt) (lit≤ tt)
 
 -- An end that holds 1.3 kN and then 1.2 kN, and of which 3.6 kN and then 4 kN are required: B becomes A.
 band-fallen : 0 ≤ 1
 unfolding band reached
-band-fallen = band-falls {weaker = 1_200_000} {held = 1_300_000} {required = 3_600_000_000} {more = 4_000_000_000} (lit≤ tt) (lit≤ tt)
+band-fallen =
+    band-falls {end = strengths 1_300_000 3_600_000_000} {weaker = strengths 1_200_000 4_000_000_000} (record { holds = lit≤ tt; needs = lit≤ tt })
 
 -- BB becomes BA on floor type 1: 100 becomes 70.
 layout-fallen : 70 ≤ 100
 unfolding layoutFactor nth
-layout-fallen = layout-falls {one = 1} {other = 1} {one' = 1} {other' = 0} 1 (lit≤ tt) (lit≤ tt) refl
+layout-fallen = layout-falls (bands 1 1) (bands 1 0) 1 (lit≤ tt) (lit≤ tt) refl
 
 -- All present, under ten with item 4 marked, and then ten or more with items 1, 2 and 4: 20/24 becomes 7/10.
 deterioration-fallen : 7 * 24 ≤ 20 * 10
 unfolding points countedMarks factorOf deteriorationFactor
-deterioration-fallen = deterioration-falls 8191 8 11 {younger = 1} {age = 2} refl (lit≤ tt)
+deterioration-fallen = deterioration-falls (items 8191 8) (items 8191 11) {younger = 1} {age = 2} refl refl (lit≤ tt)
 
 -- P10's storey at zone 90 before the layout factor, and one at zone 100 that holds less and has marks worth 4: 16 becomes 11.
 score-before-fallen : 11 ≤ 16
 unfolding score
 score-before-fallen =
-    score-before-falls {weaker = 2_300_000} {held = 2_340_000} {required = 14_400_000_000} {more = 16_000_000_000} (fraction 1 1) (fraction 20 24)
-    (lit≤ tt) (lit≤ tt) (lit≤ tt) (lit< tt) (lit< tt)
+    score-before-falls {all = strengths 2_340_000 14_400_000_000} {weaker = strengths 2_300_000 16_000_000_000} (fraction 1 1) (fraction 20 24)
+    (record { holds = lit≤ tt; needs = lit≤ tt }) (lit≤ tt) (lit< tt) (lit< tt)
 
 -- P1's storey with ends that hold 2 kN and 1.3 kN, at zone 90 without marks and then at zone 100 with marks worth 4. The better end stays in
 -- band B, and the other falls from B to A: 22 becomes 12.
 full-score-fallen : 12 ≤ 22
 unfolding score layoutFactor nth band reached
 full-score-fallen =
-    full-score-falls 3_300_000 2_000_000 1_300_000 {required = 14_400_000_000} {more = 16_000_000_000}
-    {oneRequired = 3_600_000_000} {oneMore = 4_000_000_000} {otherRequired = 3_600_000_000} {otherMore = 4_000_000_000} 1
-    (fraction 1 1) (fraction 20 24) (lit≤ tt) (lit≤ tt) (lit≤ tt) (lit≤ tt) refl (lit< tt) (lit< tt)
+    full-score-falls {all = strengths 3_300_000 14_400_000_000} {weaker = strengths 3_300_000 16_000_000_000}
+    {a = strengths 2_000_000 3_600_000_000} {a' = strengths 2_000_000 4_000_000_000}
+    {b = strengths 1_300_000 3_600_000_000} {b' = strengths 1_300_000 4_000_000_000} 1 (fraction 1 1) (fraction 20 24)
+    (record { holds = lit≤ tt; needs = lit≤ tt }) (record { holds = lit≤ tt; needs = lit≤ tt }) (record { holds = lit≤ tt; needs = lit≤ tt })
+    (lit≤ tt) refl (lit< tt) (lit< tt)
 
 -- A least score of 150 that becomes 69: verdict 1 becomes 4.
 verdict-risen : 1 ≤ 4
@@ -71,6 +74,6 @@ unfolding verdict
 verdict-risen = verdict-rises {lower = 69} {least = 150} (lit≤ tt)
 
 -- With 60,000 kN both held and required, what is computed is still the score.
-capped-at-most : cappedScore 60_000_000_000 60_000_000_000_000 100 (fraction 1 1) ≡ 100
+capped-at-most : cappedScore (strengths 60_000_000_000 60_000_000_000_000) 100 (fraction 1 1) ≡ 100
 unfolding score
-capped-at-most = capped-score {held = 60_000_000_000} {required = 60_000_000_000_000} 100 (fraction 1 1) (lit≤ tt) (lit≤ tt)
+capped-at-most = capped-score (strengths 60_000_000_000 60_000_000_000_000) 100 (fraction 1 1) (lit≤ tt) (lit≤ tt)

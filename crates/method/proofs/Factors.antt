@@ -8,6 +8,8 @@ use native.Mathlib.Omega.{arith}
 use lib.ListN.{length, getD}
 use lib.Dec.{eqb, ltb, lit≤}
 use borrow.Author.Tests.{leb-true, ltb-true, ltb-false, eqb-false, eq-eqb, ne-eqb}
+use Rattle.method.specs.declared.rows.House.{House}
+use Rattle.method.specs.declared.rows.Wall.{Wall}
 use Rattle.method.specs.Printed.{nth}
 use Rattle.method.specs.Held.{topStorey, otherStorey, oneStorey, position, foundationUsed, sharedRow, entry, interpolated, rowFactor, jointFactor}
 use Rattle.method.proofs.Branches.{cond-most, cond-least, cond-same}
@@ -113,6 +115,6 @@ module _ (row : ℕ → ℕ) (most : (column : ℕ) → row column ≤ 100) (str
 pub row-factor-most : (position foundation joint strength : ℕ) → rowFactor (entry position foundation joint) strength ≤ 100
 row-factor-most position foundation joint strength = row-most (entry position foundation joint) (entry-most position foundation joint) strength
 
-pub joint-most : (storeys storey foundation joint strength : ℕ) → jointFactor storeys storey foundation joint strength ≤ 100
+pub joint-most : (house : House) (storey : ℕ) (wall : Wall) → jointFactor house storey wall ≤ 100
 unfolding jointFactor
-joint-most storeys storey foundation joint strength = row-factor-most (position storeys storey) (foundationUsed storeys storey foundation) joint strength
+joint-most house storey wall = row-factor-most (position house storey) (foundationUsed house storey) (wall .joint) (wall .strength)

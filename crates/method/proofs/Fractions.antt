@@ -8,6 +8,7 @@ use lib.Dec.{eqb, ltb, lit<, lit≤}
 use lib.Bits.{bitAnd}
 use borrow.Author.Tests.{eqb-true, eqb-false, ltb-true, ltb-false}
 use Rattle.method.specs.declared.deterioration.Fraction.{Fraction}
+use Rattle.method.specs.declared.rows.Items.{Items}
 use Rattle.method.specs.Deterioration.{itemPoints, points, countedMarks, fraction, _at-most_, factorOf, deteriorationFactor}
 use Rattle.method.proofs.Points.{points-most, counted-rise}
 
@@ -56,13 +57,16 @@ factor-falls present fewer marked more =
     go false ef false em false ef7 true em7 = omega (arith, ltb-false (10 * present) (7 * present + 10 * fewer) ef7)
     go false ef false em false ef7 false em7 = mul-le-mul-right present (omega arith)
 
-pub deterioration-bounded : (present marked age : ℕ) → Bounded (deteriorationFactor present marked age)
+pub deterioration-bounded : (items : Items) (age : ℕ) → Bounded (deteriorationFactor items age)
 unfolding deteriorationFactor
-deterioration-bounded present marked age = factor-bounded (points itemPoints present) (countedMarks marked age) (points-most present)
+deterioration-bounded items age =
+    factor-bounded (points itemPoints (items .present)) (countedMarks (items .marked) age) (points-most (items .present))
 
 -- The deterioration factor of the same present set, with every mark of the other house, or more years.
-pub deterioration-falls : (present fewer marked : ℕ) {younger age : ℕ} → bitAnd fewer marked ≡ fewer → younger ≤ age
-    → deteriorationFactor present marked age at-most deteriorationFactor present fewer younger
+pub deterioration-falls : (items worse : Items) {younger age : ℕ} → items .present ≡ worse .present → bitAnd (items .marked) (worse .marked) ≡ items .marked
+    → younger ≤ age → deteriorationFactor worse age at-most deteriorationFactor items younger
 unfolding deteriorationFactor
-deterioration-falls present fewer marked {younger} {age} within older =
-    factor-falls (points itemPoints present) (countedMarks fewer younger) (countedMarks marked age) (counted-rise fewer marked within older)
+deterioration-falls items worse {younger} {age} same within older =
+    rw same
+    (factor-falls (points itemPoints (worse .present)) (countedMarks (items .marked) younger) (countedMarks (worse .marked) age)
+    (counted-rise (items .marked) (worse .marked) within older))

@@ -1,13 +1,14 @@
 -- How much a wall can count, and how much a house's walls together. Assumes nothing.
-use mathlib.Core.Path.{_≡_, sym}
-use mathlib.Core.List.{List, [], _∷_, _++_}
-use Prim.Native.Nat.{ℕ, _+_, _*_, _≤_, min}
-use native.Mathlib.Nat.{min-le-right, mul-le-mul, mul-le-mul-right, zero-add}
+use mathlib.Core.Path.{_≡_, refl}
+use mathlib.Core.Bool.{Bool, cond}
+use Prim.Native.Nat.{ℕ, zero, suc, _+_, _*_, _<_, _≤_, min}
+use native.Mathlib.Nat.{min-le-right, mul-le-mul, mul-le-mul-right}
+use native.Mathlib.Numerals.{add-one}
 use native.Mathlib.Omega.{arith}
-use lib.ListN.{length}
 use lib.Dec.{eqb, lit≤}
-use Rattle.method.specs.Held.{solidShare, openingShare, wallShare, heldStrength, mostHeld}
-use Rattle.method.proofs.Tables.{AllAtMost}
+use Rattle.method.specs.declared.rows.House.{House}
+use Rattle.method.specs.declared.rows.Wall.{Wall}
+use Rattle.method.specs.Held.{solidShare, openingShare, wallShare, heldStrength}
 use Rattle.method.proofs.Branches.{cond-most}
 use Rattle.method.proofs.Factors.{joint-most}
 
@@ -15,42 +16,42 @@ use Rattle.method.proofs.Factors.{joint-most}
 abbrev pub mostShare : ℕ
 mostShare = 100 * 100 * 20000
 
-module _ (storeys storey foundation joint strength length : ℕ) (short : length ≤ 20000) where
-  pub solid-most : solidShare storeys storey foundation joint strength length ≤ mostShare
+module _ (house : House) (storey : ℕ) (wall : Wall) (short : wall .length ≤ 20000) where
+  pub solid-most : solidShare house storey wall ≤ mostShare
   unfolding solidShare
-  solid-most =
-      mul-le-mul
-      (mul-le-mul (min-le-right strength 100) (joint-most storeys storey foundation joint strength)) short
+  solid-most = mul-le-mul (mul-le-mul (min-le-right (wall .strength) 100) (joint-most house storey wall)) short
 
-  opening-most : (opening : ℕ) → opening ≤ 6 → openingShare opening length ≤ mostShare
+  opening-most : (opening : ℕ) → opening ≤ 6 → openingShare opening wall ≤ mostShare
   unfolding openingShare
   opening-most opening weak =
-      let most : opening * 100 * min length 3000 ≤ 6 * 100 * 3000 = mul-le-mul (mul-le-mul-right 100 weak) (min-le-right length 3000) in
+      let most : opening * 100 * min (wall .length) 3000 ≤ 6 * 100 * 3000 = mul-le-mul (mul-le-mul-right 100 weak) (min-le-right (wall .length) 3000) in
       omega arith
 
-  pub share-most : (walltype : ℕ) → wallShare storeys storey foundation walltype joint strength length ≤ mostShare
+  pub share-most : wallShare house storey wall ≤ mostShare
   unfolding wallShare
-  share-most walltype =
-      cond-most (eqb walltype 1) (λ e. solid-most)
-      (λ e. cond-most (eqb walltype 2) (λ d. opening-most 6 (lit≤ tt))
-      (λ d. cond-most (eqb walltype 3) (λ f. opening-most 3 (lit≤ tt)) (λ f. lit≤ tt)))
+  share-most =
+      cond-most (eqb (wall .walltype) 1) (λ e. solid-most)
+      (λ e. cond-most (eqb (wall .walltype) 2) (λ d. opening-most 6 (lit≤ tt))
+      (λ d. cond-most (eqb (wall .walltype) 3) (λ f. opening-most 3 (lit≤ tt)) (λ f. lit≤ tt)))
 
--- The sum over some walls and then others.
-pub held-append : (one other : List ℕ) → heldStrength (one ++ other) ≡ heldStrength one + heldStrength other
-unfolding heldStrength
-held-append [] other = sym (zero-add (heldStrength other))
-held-append (share ∷ shares) other = omega (arith, held-append shares other)
+-- The sum over the walls that a test takes.
+module _ (takes : ℕ → Bool) (share : ℕ → ℕ) where
+  -- No wall yet; and one wall more.
+  pub held-none : heldStrength takes share 0 ≡ 0
+  unfolding heldStrength
+  held-none = refl
 
--- The sum over walls that each count at most so much.
-pub held-per-wall : (shares : List ℕ) → AllAtMost mostShare shares → heldStrength shares ≤ length shares * mostShare
-unfolding heldStrength
-held-per-wall [] each = lit≤ tt
-held-per-wall (share ∷ shares) each =
-    let rest : heldStrength shares ≤ length shares * mostShare = held-per-wall shares (each .1) in
-    omega (arith, each .0)
+  pub held-more : (n : ℕ) → heldStrength takes share (n + 1) ≡ heldStrength takes share n + cond (takes n) (share n) 0
+  unfolding heldStrength
+  held-more n = rw add-one
 
--- 300 walls hold at most 60,000,000,000.
-pub held-most : (shares : List ℕ) → length shares ≤ 300 → AllAtMost mostShare shares → heldStrength shares ≤ mostHeld
-held-most shares few each =
-    let all : heldStrength shares ≤ length shares * mostShare = held-per-wall shares each in
-    omega arith
+  -- Walls that each count at most so much.
+  pub held-most : (n : ℕ) → ((k : ℕ) → k < n → share k ≤ mostShare) → heldStrength takes share n ≤ n * mostShare
+  unfolding heldStrength
+  held-most zero each = lit≤ tt
+  held-most (suc n) each =
+      omega (
+        arith,
+        held-most n (λ k l. each k (omega arith)),
+        cond-most (takes n) {a = share n} {b = 0} {most = mostShare} (λ e. each n (omega arith)) (λ e. lit≤ tt),
+      )

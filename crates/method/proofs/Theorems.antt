@@ -5,9 +5,14 @@ use Prim.Native.Nat.{ℕ, _+_, _*_, _<_, _≤_, max}
 use lib.Bits.{bitAnd}
 use lib.Count.{ones}
 use Rattle.method.specs.declared.deterioration.Fraction.{Fraction}
+use Rattle.method.specs.declared.rows.House.{House}
+use Rattle.method.specs.declared.rows.HousePart.{HousePart}
+use Rattle.method.specs.declared.rows.Items.{Items}
+use Rattle.method.specs.declared.rows.Strengths.{Strengths}
+use Rattle.method.specs.declared.rows.Bands.{Bands}
 use Rattle.method.specs.Held.{mostHeld}
 use Rattle.method.specs.Required.{requiredStrength, mostRequired}
-use Rattle.method.specs.LayoutFactor.{band, layoutFactor}
+use Rattle.method.specs.LayoutFactor.{NoStronger, band, layoutFactor}
 use Rattle.method.specs.Deterioration.{itemPoints, itemPointsUnderTen, points, _at-most_, deteriorationFactor}
 use Rattle.method.specs.Score.{score, scoreBeforeLayout, cappedScore, verdict}
 use Rattle.method.specs.Worked.{worked, expected, layoutTable, documentTable}
@@ -23,7 +28,7 @@ pub document-table : layoutTable ≡ documentTable
 document-table = examples.document-table
 
 -- It does not matter which end is which.
-pub layout-mirrored : (one other floor : ℕ) → layoutFactor one other floor ≡ layoutFactor other one floor
+pub layout-mirrored : (ends : Bands) (floor : ℕ) → layoutFactor ends floor ≡ layoutFactor (record { a = ends .b; b = ends .a }) floor
 layout-mirrored = bands.layout-mirrored
 
 -- Deterioration factor. "The points follow from how many items of each weight are in the set": mask by weight, then count ones. 8 is the
@@ -37,39 +42,38 @@ points-masked = counts.points-masked
 
 -- A house made worse, number by number. With a heavier class, a higher zone or softer ground no less is required of a storey or an end, nor
 -- with a larger area or narrow factor.
-pub required-rises : (storeys storey : ℕ) {lighter weight smaller area lower zone firmer ground wider narrow : ℕ}
-    → lighter ≤ weight → weight ≤ 3 → smaller ≤ area → lower ≤ zone → firmer ≤ ground → wider ≤ narrow
-    → requiredStrength storeys storey lighter smaller lower firmer wider ≤ requiredStrength storeys storey weight area zone ground narrow
+pub required-rises : (house : House) (part : HousePart) (worse : House) (other : HousePart) {wider narrow : ℕ}
+    → house .weight ≤ worse .weight → worse .weight ≤ 3 → house .zone ≤ worse .zone → house .ground ≤ worse .ground
+    → part .storey ≡ other .storey → part .storeys ≡ other .storeys → part .area ≤ other .area → wider ≤ narrow
+    → requiredStrength house part wider ≤ requiredStrength worse other narrow
 required-rises = requirements.required-rises
 
 -- An end that holds no more, and of which no less is required, is in no higher band.
-pub band-falls : {weaker held required more : ℕ} → weaker ≤ held → required ≤ more → band weaker more ≤ band held required
+pub band-falls : {end weaker : Strengths} → NoStronger end weaker → band weaker ≤ band end
 band-falls = bands.band-falls
 
 -- Where neither end's band is higher and the higher band is kept, the layout factor is no higher.
-pub layout-falls : {one other one' other' : ℕ} (floor : ℕ) → one' ≤ one → other' ≤ other → max one' other' ≡ max one other
-    → layoutFactor one' other' floor ≤ layoutFactor one other floor
+pub layout-falls : (ends worse : Bands) (floor : ℕ) → worse .a ≤ ends .a → worse .b ≤ ends .b → max (worse .a) (worse .b) ≡ max (ends .a) (ends .b)
+    → layoutFactor worse floor ≤ layoutFactor ends floor
 layout-falls = bands.layout-falls
 
 -- With the same parts, every mark of the other house and no fewer years the deterioration factor is no higher.
-pub deterioration-falls : (present fewer marked : ℕ) {younger age : ℕ} → bitAnd fewer marked ≡ fewer → younger ≤ age
-    → deteriorationFactor present marked age at-most deteriorationFactor present fewer younger
+pub deterioration-falls : (items worse : Items) {younger age : ℕ} → items .present ≡ worse .present → bitAnd (items .marked) (worse .marked) ≡ items .marked
+    → younger ≤ age → deteriorationFactor worse age at-most deteriorationFactor items younger
 deterioration-falls = fractions.deterioration-falls
 
 -- Where no more is held, no less is required and the deterioration factor is no higher, the score before the layout factor is no higher,
 -- rounding down included.
-pub score-before-falls : {weaker held required more : ℕ} (f g : Fraction) → weaker ≤ held → required ≤ more → g at-most f
-    → 0 < required → 0 < f .lower → scoreBeforeLayout weaker more g ≤ scoreBeforeLayout held required f
+pub score-before-falls : {all weaker : Strengths} (f g : Fraction) → NoStronger all weaker → g at-most f → 0 < all .required → 0 < f .lower
+    → scoreBeforeLayout weaker g ≤ scoreBeforeLayout all f
 score-before-falls = comparisons.score-before-falls
 
--- The full score of a storey and direction that holds so much, and whose ends hold so much: where no less is required of it and of them, the
--- higher band is kept and the deterioration factor is no higher, it is no higher, rounding down included.
-pub full-score-falls : (held one other : ℕ) {required more oneRequired oneMore otherRequired otherMore : ℕ} (floor : ℕ) (f g : Fraction)
-    → required ≤ more → oneRequired ≤ oneMore → otherRequired ≤ otherMore → g at-most f
-    → max (band one oneMore) (band other otherMore) ≡ max (band one oneRequired) (band other otherRequired)
-    → 0 < required → 0 < f .lower
-    → score held more (layoutFactor (band one oneMore) (band other otherMore) floor) g
-    ≤ score held required (layoutFactor (band one oneRequired) (band other otherRequired) floor) f
+-- The full score of a storey and direction and its two ends: where none of them holds more, no less is required of any, the higher band is kept
+-- and the deterioration factor is no higher, it is no higher, rounding down included.
+pub full-score-falls : {all weaker a a' b b' : Strengths} (floor : ℕ) (f g : Fraction)
+    → NoStronger all weaker → NoStronger a a' → NoStronger b b' → g at-most f → max (band a') (band b') ≡ max (band a) (band b)
+    → 0 < all .required → 0 < f .lower
+    → score weaker (layoutFactor (record { a = band a'; b = band b' }) floor) g ≤ score all (layoutFactor (record { a = band a; b = band b }) floor) f
 full-score-falls = comparisons.full-score-falls
 
 -- With a lower least score the verdict's number is no lower.
@@ -77,8 +81,8 @@ pub verdict-rises : {lower least : ℕ} → lower ≤ least → verdict least �
 verdict-rises = comparisons.verdict-rises
 
 -- Of strengths up to 60,000 kN, which no storey of a house exceeds, what the function `score` answers is the score.
-pub capped-score : {held required : ℕ} (layout : ℕ) (f : Fraction) → held ≤ mostHeld → required ≤ mostRequired
-    → cappedScore held required layout f ≡ score held required layout f
+pub capped-score : (strengths : Strengths) (layout : ℕ) (f : Fraction) → strengths .held ≤ mostHeld → strengths .required ≤ mostRequired
+    → cappedScore strengths layout f ≡ score strengths layout f
 capped-score = comparisons.capped-score
 
 -- Houses worked through: document 01's numbers, and one for each definition that its examples leave open.

@@ -4,6 +4,7 @@ use mathlib.Core.List.{List, [], _∷_}
 use Prim.Native.Nat.{ℕ, _+_, _-_, _*_, _/_, _%_, _≤_}
 use lib.Dec.{eqb, ltb}
 use Rattle.method.specs.declared.deterioration.Fraction.{Fraction}
+use Rattle.method.specs.declared.rows.Items.{Items}
 
 -- "Items and points (000, table 4.8)": the column for houses of ten years or more.
 abbrev pub itemPoints : List ℕ
@@ -54,6 +55,6 @@ factorOf present marked =
     (cond (ltb (10 * present) (7 * present + 10 * marked)) (fraction 7 10)
     (fraction (present - marked) present))
 
--- The deterioration factor of a present set, a marked set and an age.
-unfoldable pub deteriorationFactor : ℕ → ℕ → ℕ → Fraction
-deteriorationFactor present marked age = factorOf (points itemPoints present) (countedMarks marked age)
+-- The deterioration factor of the items and an age.
+unfoldable pub deteriorationFactor : Items → ℕ → Fraction
+deteriorationFactor items age = factorOf (points itemPoints (items .present)) (countedMarks (items .marked) age)

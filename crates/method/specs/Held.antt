@@ -1,9 +1,11 @@
 -- What a wall counts towards the held strength. Document 01, "Held strength". "Unit: 0.000001 kN, whole numbers."
-use mathlib.Core.Bool.{cond, _&&_}
+use mathlib.Core.Bool.{Bool, cond, _&&_}
 use mathlib.Core.List.{List, [], _∷_}
-use Prim.Native.Nat.{ℕ, _+_, _-_, _*_, _/_, min}
+use Prim.Native.Nat.{ℕ, zero, suc, _+_, _-_, _*_, _/_, min}
 use lib.ListN.{getD}
 use lib.Dec.{eqb, ltb}
+use Rattle.method.specs.declared.rows.House.{House}
+use Rattle.method.specs.declared.rows.Wall.{Wall}
 use Rattle.method.specs.Printed.{nth}
 
 -- "000's table of reductions for column joints outside snow areas (its 'reference 2')", in hundredths, as it is printed: a line a joint; from
@@ -37,12 +39,12 @@ oneStorey =
 
 -- Which of the three tables a storey takes: 1 the top storey of two or three, 2 another storey of two or three, 3 one storey. Numbers that no
 -- house has go by the same tests.
-unfoldable pub position : ℕ → ℕ → ℕ
-position storeys storey = cond (eqb storeys 1) 3 (cond (eqb storey storeys) 1 2)
+unfoldable pub position : House → ℕ → ℕ
+position house storey = cond (eqb (house .storeys) 1) 3 (cond (eqb storey (house .storeys)) 1 2)
 
 -- "The middle storey of three uses foundation 1."
-unfoldable pub foundationUsed : ℕ → ℕ → ℕ → ℕ
-foundationUsed storeys storey foundation = cond (eqb storeys 3 && eqb storey 2) 1 foundation
+unfoldable pub foundationUsed : House → ℕ → ℕ
+foundationUsed house storey = cond (eqb (house .storeys) 3 && eqb storey 2) 1 (house .foundation)
 
 -- "In one storey joints 3 and 4 share a row."
 unfoldable pub sharedRow : ℕ → ℕ
@@ -70,31 +72,30 @@ rowFactor row strength =
     (cond (ltb strength 70) (interpolated 50 70 (row 2) (row 3) strength)
     (row 3))))
 
--- Document 01's joint factor (000's Kj), in hundredths.
-unfoldable pub jointFactor : ℕ → ℕ → ℕ → ℕ → ℕ → ℕ
-jointFactor storeys storey foundation joint strength =
-    rowFactor (entry (position storeys storey) (foundationUsed storeys storey foundation) joint) strength
+-- Document 01's joint factor (000's Kj) of a solid wall in a storey of a house, in hundredths.
+unfoldable pub jointFactor : House → ℕ → Wall → ℕ
+jointFactor house storey wall = rowFactor (entry (position house storey) (foundationUsed house storey) (wall .joint)) (wall .strength)
 
 -- "A solid wall counts strength (at most 100) × joint factor in hundredths × length."
-unfoldable pub solidShare : ℕ → ℕ → ℕ → ℕ → ℕ → ℕ → ℕ
-solidShare storeys storey foundation joint strength length =
-    min strength 100 * jointFactor storeys storey foundation joint strength * length
+unfoldable pub solidShare : House → ℕ → Wall → ℕ
+solidShare house storey wall = min (wall .strength) 100 * jointFactor house storey wall * wall .length
 
 -- "A window counts 6 and a full-height opening 3, × 100 × length, with length at most 3,000."
-unfoldable pub openingShare : ℕ → ℕ → ℕ
-openingShare strength length = strength * 100 * min length 3000
+unfoldable pub openingShare : ℕ → Wall → ℕ
+openingShare strength wall = strength * 100 * min (wall .length) 3000
 
 -- What a wall of a type (1 solid, 2 window opening, 3 full-height opening) counts; 0 for any other type.
-unfoldable pub wallShare : ℕ → ℕ → ℕ → ℕ → ℕ → ℕ → ℕ → ℕ
-wallShare storeys storey foundation walltype joint strength length =
-    cond (eqb walltype 1) (solidShare storeys storey foundation joint strength length)
-    (cond (eqb walltype 2) (openingShare 6 length)
-    (cond (eqb walltype 3) (openingShare 3 length) 0))
+unfoldable pub wallShare : House → ℕ → Wall → ℕ
+wallShare house storey wall =
+    cond (eqb (wall .walltype) 1) (solidShare house storey wall)
+    (cond (eqb (wall .walltype) 2) (openingShare 6 wall)
+    (cond (eqb (wall .walltype) 3) (openingShare 3 wall) 0))
 
--- "Held strength of a storey and direction is the sum over its walls", here of what each of them counts.
-unfoldable pub heldStrength : List ℕ → ℕ
-heldStrength [] = 0
-heldStrength (share ∷ shares) = share + heldStrength shares
+-- "Held strength of a storey and direction is the sum over its walls": of n walls, numbered from 0, the sum of the shares of those that a
+-- test takes.
+unfoldable pub heldStrength : (ℕ → Bool) → (ℕ → ℕ) → ℕ → ℕ
+heldStrength takes share zero = 0
+heldStrength takes share (suc n) = heldStrength takes share n + cond (takes n) (share n) 0
 
 -- 60,000 kN, which no storey's walls exceed. Where scores are computed, a held strength above this counts as this (`cappedScore`).
 abbrev pub mostHeld : ℕ

@@ -4,6 +4,9 @@ use mathlib.Core.List.{List, [], _∷_}
 use Prim.Native.Nat.{ℕ, _+_, _-_, _*_}
 use lib.ListN.{getD}
 use lib.Dec.{eqb, leb, ltb}
+use Rattle.method.specs.declared.rows.House.{House}
+use Rattle.method.specs.declared.rows.Storey.{Storey}
+use Rattle.method.specs.declared.rows.HousePart.{HousePart}
 use Rattle.method.specs.Printed.{nth}
 use Rattle.method.specs.Held.{mostHeld}
 
@@ -23,12 +26,12 @@ constants =
 unfoldable pub topLine : ℕ → ℕ
 topLine storeys = cond (eqb storeys 1) 0 (cond (eqb storeys 2) 1 3)
 
--- The constant of a storey of a part with so many storeys, and of a weight class. It is 0 where the part has no such storey or is not of one
--- to three storeys, or the class is not 1 to 3.
-unfoldable pub constant : ℕ → ℕ → ℕ → ℕ
-constant storeys storey weight =
-    cond (leb 1 storey && leb storey storeys && leb storeys 3)
-    (nth (getD constants (topLine storeys + (storeys - storey)) []) weight 0) 0
+-- The constant of a part's storey, by the storeys of the part and the house's weight class. It is 0 where the part has no such storey or is
+-- not of one to three storeys, or the class is not 1 to 3.
+unfoldable pub constant : HousePart → ℕ → ℕ
+constant part weight =
+    cond (leb 1 (part .storey) && leb (part .storey) (part .storeys) && leb (part .storeys) 3)
+    (nth (getD constants (topLine (part .storeys) + (part .storeys - part .storey)) []) weight 0) 0
 
 -- "ground (10 ordinary, 15 very soft)". Ground 1 is ordinary, 2 very soft; other numbers go by the same test.
 unfoldable pub groundFactor : ℕ → ℕ
@@ -36,13 +39,13 @@ groundFactor ground = cond (ltb ground 2) 10 15
 
 -- "The narrow factor is 113 for the ground storey of two or three storeys whose short side is under 4,000 mm, else 100." The storeys are
 -- the house's, which has at most three.
-unfoldable pub narrowFactor : ℕ → ℕ → ℕ → ℕ
-narrowFactor storeys storey side = cond (leb 2 storeys && eqb storey 1 && ltb side 4000) 113 100
+unfoldable pub narrowFactor : House → Storey → ℕ
+narrowFactor house storey = cond (leb 2 (house .storeys) && eqb (storey .number) 1 && ltb (storey .side) 4000) 113 100
 
 -- "Constant in 0.01 kN/m² × area × zone × ground (..) × narrow factor in hundredths." "An end uses its own area, its part's number of storeys
 -- for the constant, and its storey's other factors": so for a storey the storeys are the house's, for an end its part's.
-unfoldable pub requiredStrength : ℕ → ℕ → ℕ → ℕ → ℕ → ℕ → ℕ → ℕ
-requiredStrength storeys storey weight area zone ground narrow = constant storeys storey weight * area * zone * groundFactor ground * narrow
+unfoldable pub requiredStrength : House → HousePart → ℕ → ℕ
+requiredStrength house part narrow = constant part (house .weight) * part .area * house .zone * groundFactor (house .ground) * narrow
 
 -- 60,000 kN in this unit, more than a storey can need. Where scores are computed, a required strength above this counts as this
 -- (`cappedScore`).

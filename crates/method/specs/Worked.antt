@@ -2,98 +2,134 @@
 -- definition has a number that another definition would change.
 use mathlib.Core.List.{List, [], _∷_}
 use Prim.Native.Nat.{ℕ}
+use Rattle.method.specs.declared.rows.House.{House}
+use Rattle.method.specs.declared.rows.Storey.{Storey}
+use Rattle.method.specs.declared.rows.HousePart.{HousePart}
+use Rattle.method.specs.declared.rows.Wall.{Wall}
+use Rattle.method.specs.declared.rows.Items.{Items}
+use Rattle.method.specs.declared.rows.Strengths.{Strengths}
+use Rattle.method.specs.declared.rows.Bands.{Bands}
 use Rattle.method.specs.Held.{jointFactor, wallShare}
 use Rattle.method.specs.Required.{constant, narrowFactor, requiredStrength}
 use Rattle.method.specs.LayoutFactor.{band, floorType, layoutFactor, byFloorType}
 use Rattle.method.specs.Deterioration.{itemPoints, itemPointsUnderTen, points, fraction, deteriorationFactor}
 use Rattle.method.specs.Score.{score, scoreBeforeLayout, cappedScore, verdict}
 
+-- A house by its storeys, weight class, zone, ground and foundation,
+abbrev pub house : ℕ → ℕ → ℕ → ℕ → ℕ → House
+house storeys weight zone ground foundation =
+    record { storeys = storeys; weight = weight; zone = zone; ground = ground; foundation = foundation }
+
+-- a storey of 40 m² by its number, short side, floor type and void,
+abbrev pub storey : ℕ → ℕ → ℕ → ℕ → Storey
+storey number side floor void = record { number = number; area = 4000; side = side; floor = floor; void = void }
+
+-- a part by its storey, the number of its storeys and its area,
+abbrev pub housePart : ℕ → ℕ → ℕ → HousePart
+housePart storey storeys area = record { storey = storey; storeys = storeys; area = area }
+
+-- a wall by its type, joint, strength and length,
+abbrev pub wall : ℕ → ℕ → ℕ → ℕ → Wall
+wall walltype joint strength length = record { strength = strength; length = length; joint = joint; walltype = walltype }
+
+-- the sets that are present and marked,
+abbrev pub items : ℕ → ℕ → Items
+items present marked = record { present = present; marked = marked }
+
+-- what is held and what is required,
+abbrev pub strengths : ℕ → ℕ → Strengths
+strengths held required = record { held = held; required = required }
+
+-- and the bands of two ends.
+abbrev pub bands : ℕ → ℕ → Bands
+bands a b = record { a = a; b = b }
+
 -- P1 to P11, and 000's own worked joint factor (its section 4.2); then the further numbers.
 abbrev pub worked : List ℕ
 worked =
-    requiredStrength 1 1 2 4000 100 1 100  -- P1: one storey, heavy, 40 m², zone 100, ordinary ground, not narrow
-    ∷ score 9_200_000 16_000_000_000 100 (fraction 20 24)  -- its score in X, where 9.2 kN are held
-    ∷ score 16_000_000 16_000_000_000 100 (fraction 20 24)  -- and in Y, where 16 kN are
-    ∷ jointFactor 2 2 1 4 31  -- P2: upper storey of two, joint 4, strength 31: its factor
-    ∷ wallShare 2 2 1 1 4 31 4550  -- and of 4,550 mm
-    ∷ jointFactor 2 1 2 4 22  -- P3: ground storey of two, foundation 2, joint 4, strength 22
-    ∷ wallShare 2 1 2 1 4 22 1820
-    ∷ jointFactor 2 1 2 4 31  -- P4: strength 31
-    ∷ wallShare 2 1 2 1 4 31 3640
-    ∷ wallShare 1 1 1 1 1 101 1000  -- P5: strength 101 counts as 100
-    ∷ wallShare 1 1 1 1 1 100 1000
-    ∷ wallShare 1 1 1 2 0 0 3001  -- P6: a window of 3,001 mm
-    ∷ deteriorationFactor 8191 8 2 .upper  -- P7: all present, marks worth 4 (item 4)
-    ∷ deteriorationFactor 8191 8 2 .lower
-    ∷ deteriorationFactor 8191 41 2 .upper  -- worth 7 (items 1, 4, 6)
-    ∷ deteriorationFactor 8191 41 2 .lower
-    ∷ deteriorationFactor 8191 11 2 .upper  -- worth 8 (items 1, 2, 4)
-    ∷ deteriorationFactor 8191 11 2 .lower
-    ∷ deteriorationFactor 8191 2048 1 .upper  -- P8: under ten, corridor (item 12) alone marked
-    ∷ deteriorationFactor 8191 2048 1 .lower
-    ∷ band 33 100_000  -- P9: sufficiency exactly 0.33 is B
-    ∷ band 100 100_000  -- exactly 1.00 is D
-    ∷ requiredStrength 1 1 2 4000 90 1 100  -- P10: at zone 90
-    ∷ band 1_080_000 (requiredStrength 1 1 2 1000 90 1 100)  -- the end with the wall of 540 mm
-    ∷ band 1_260_000 (requiredStrength 1 1 2 1000 90 1 100)  -- and that with the wall of 630 mm
-    ∷ scoreBeforeLayout 2_340_000 14_400_000_000 (fraction 1 1)
-    ∷ score 2_340_000 14_400_000_000 (layoutFactor 0 1 1) (fraction 1 1)
-    ∷ band 1_260_000 (requiredStrength 1 1 2 1000 100 1 100)  -- at zone 100: "the better end falls from B to A"
-    ∷ scoreBeforeLayout 2_340_000 16_000_000_000 (fraction 1 1)
-    ∷ score 2_340_000 16_000_000_000 (layoutFactor 0 0 1) (fraction 1 1)
+    requiredStrength (house 1 2 100 1 1) (housePart 1 1 4000) 100  -- P1: one storey, heavy, 40 m², zone 100, ordinary ground, not narrow
+    ∷ score (strengths 9_200_000 16_000_000_000) 100 (fraction 20 24)  -- its score in X, where 9.2 kN are held
+    ∷ score (strengths 16_000_000 16_000_000_000) 100 (fraction 20 24)  -- and in Y, where 16 kN are
+    ∷ jointFactor (house 2 1 100 1 1) 2 (wall 1 4 31 1000)  -- P2: upper storey of two, joint 4, strength 31: its factor
+    ∷ wallShare (house 2 1 100 1 1) 2 (wall 1 4 31 4550)  -- and of 4,550 mm
+    ∷ jointFactor (house 2 1 100 1 2) 1 (wall 1 4 22 1000)  -- P3: ground storey of two, foundation 2, joint 4, strength 22
+    ∷ wallShare (house 2 1 100 1 2) 1 (wall 1 4 22 1820)
+    ∷ jointFactor (house 2 1 100 1 2) 1 (wall 1 4 31 1000)  -- P4: strength 31
+    ∷ wallShare (house 2 1 100 1 2) 1 (wall 1 4 31 3640)
+    ∷ wallShare (house 1 1 100 1 1) 1 (wall 1 1 101 1000)  -- P5: strength 101 counts as 100
+    ∷ wallShare (house 1 1 100 1 1) 1 (wall 1 1 100 1000)
+    ∷ wallShare (house 1 1 100 1 1) 1 (wall 2 0 0 3001)  -- P6: a window of 3,001 mm
+    ∷ deteriorationFactor (items 8191 8) 2 .upper  -- P7: all present, marks worth 4 (item 4)
+    ∷ deteriorationFactor (items 8191 8) 2 .lower
+    ∷ deteriorationFactor (items 8191 41) 2 .upper  -- worth 7 (items 1, 4, 6)
+    ∷ deteriorationFactor (items 8191 41) 2 .lower
+    ∷ deteriorationFactor (items 8191 11) 2 .upper  -- worth 8 (items 1, 2, 4)
+    ∷ deteriorationFactor (items 8191 11) 2 .lower
+    ∷ deteriorationFactor (items 8191 2048) 1 .upper  -- P8: under ten, corridor (item 12) alone marked
+    ∷ deteriorationFactor (items 8191 2048) 1 .lower
+    ∷ band (strengths 33 100_000)  -- P9: sufficiency exactly 0.33 is B
+    ∷ band (strengths 100 100_000)  -- exactly 1.00 is D
+    ∷ requiredStrength (house 1 2 90 1 1) (housePart 1 1 4000) 100  -- P10: at zone 90
+    ∷ band (strengths 1_080_000 (requiredStrength (house 1 2 90 1 1) (housePart 1 1 1000) 100))  -- the end with the wall of 540 mm
+    ∷ band (strengths 1_260_000 (requiredStrength (house 1 2 90 1 1) (housePart 1 1 1000) 100))  -- and that with the wall of 630 mm
+    ∷ scoreBeforeLayout (strengths 2_340_000 14_400_000_000) (fraction 1 1)
+    ∷ score (strengths 2_340_000 14_400_000_000) (layoutFactor (bands 0 1) 1) (fraction 1 1)
+    ∷ band (strengths 1_260_000 (requiredStrength (house 1 2 100 1 1) (housePart 1 1 1000) 100))  -- at zone 100: "the better end falls from B to A"
+    ∷ scoreBeforeLayout (strengths 2_340_000 16_000_000_000) (fraction 1 1)
+    ∷ score (strengths 2_340_000 16_000_000_000) (layoutFactor (bands 0 0) 1) (fraction 1 1)
     ∷ verdict 69  -- P11
     ∷ verdict 70
     ∷ verdict 99
     ∷ verdict 100
     ∷ verdict 149
     ∷ verdict 150
-    ∷ jointFactor 2 1 2 2 40  -- 000: strength 4.0, joint II, foundation II, ground storey of two
-    ∷ constant 1 1 1  -- "one storey 28, 40"
-    ∷ constant 1 1 2
-    ∷ constant 2 1 1  -- "two storeys, ground 83, 106"
-    ∷ constant 2 1 2
-    ∷ constant 2 2 1  -- "upper 37, 53"
-    ∷ constant 2 2 2
-    ∷ constant 3 1 3  -- three storeys, very heavy, from the ground up
-    ∷ constant 3 2 3
-    ∷ constant 3 3 3
-    ∷ narrowFactor 2 1 3999  -- "Run: .. short side 3,999 and 4,000"
-    ∷ narrowFactor 2 1 4000
-    ∷ narrowFactor 2 2 3999  -- the upper storey
-    ∷ narrowFactor 1 1 3999  -- one storey
-    ∷ requiredStrength 2 1 2 4000 100 2 113  -- narrow ground storey of two, heavy, 40 m², zone 100, on very soft ground
-    ∷ band 32 100_000  -- a hundredth under each limit, and the limits that P9 leaves out
-    ∷ band 65 100_000
-    ∷ band 66 100_000
-    ∷ band 99 100_000
-    ∷ band 132 100_000
-    ∷ band 133 100_000
-    ∷ floorType 1 0  -- no void
-    ∷ floorType 1 1  -- "A void makes floor type 1 into 2 and 2 into 3"
-    ∷ floorType 2 1
-    ∷ floorType 3 1
-    ∷ layoutFactor 0 0 2  -- AA, BB, BC, CC, CD, CE: 100/90/80
-    ∷ layoutFactor 1 0 2  -- AB: 70/65/60
-    ∷ layoutFactor 0 2 3  -- AC: 65/60/55
-    ∷ layoutFactor 3 0 3  -- AD: 60/55/50
-    ∷ layoutFactor 0 4 3  -- AE: 55/50/45
-    ∷ layoutFactor 1 3 1  -- BD: 75/70/60
-    ∷ layoutFactor 4 1 3  -- BE: 70/65/55
-    ∷ layoutFactor 3 4 3  -- DD, DE, EE: 100/100/100
+    ∷ jointFactor (house 2 1 100 1 2) 1 (wall 1 2 40 1000)  -- 000: strength 4.0, joint II, foundation II, ground storey of two
+    ∷ constant (housePart 1 1 4000) 1  -- "one storey 28, 40"
+    ∷ constant (housePart 1 1 4000) 2
+    ∷ constant (housePart 1 2 4000) 1  -- "two storeys, ground 83, 106"
+    ∷ constant (housePart 1 2 4000) 2
+    ∷ constant (housePart 2 2 4000) 1  -- "upper 37, 53"
+    ∷ constant (housePart 2 2 4000) 2
+    ∷ constant (housePart 1 3 4000) 3  -- three storeys, very heavy, from the ground up
+    ∷ constant (housePart 2 3 4000) 3
+    ∷ constant (housePart 3 3 4000) 3
+    ∷ narrowFactor (house 2 1 100 1 1) (storey 1 3999 1 0)  -- "Run: .. short side 3,999 and 4,000"
+    ∷ narrowFactor (house 2 1 100 1 1) (storey 1 4000 1 0)
+    ∷ narrowFactor (house 2 1 100 1 1) (storey 2 3999 1 0)  -- the upper storey
+    ∷ narrowFactor (house 1 1 100 1 1) (storey 1 3999 1 0)  -- one storey
+    ∷ requiredStrength (house 2 2 100 2 1) (housePart 1 2 4000) 113  -- narrow ground storey of two, heavy, 40 m², zone 100, on very soft ground
+    ∷ band (strengths 32 100_000)  -- a hundredth under each limit, and the limits that P9 leaves out
+    ∷ band (strengths 65 100_000)
+    ∷ band (strengths 66 100_000)
+    ∷ band (strengths 99 100_000)
+    ∷ band (strengths 132 100_000)
+    ∷ band (strengths 133 100_000)
+    ∷ floorType (storey 1 5000 1 0)  -- no void
+    ∷ floorType (storey 1 5000 1 1)  -- "A void makes floor type 1 into 2 and 2 into 3"
+    ∷ floorType (storey 1 5000 2 1)
+    ∷ floorType (storey 1 5000 3 1)
+    ∷ layoutFactor (bands 0 0) 2  -- AA, BB, BC, CC, CD, CE: 100/90/80
+    ∷ layoutFactor (bands 1 0) 2  -- AB: 70/65/60
+    ∷ layoutFactor (bands 0 2) 3  -- AC: 65/60/55
+    ∷ layoutFactor (bands 3 0) 3  -- AD: 60/55/50
+    ∷ layoutFactor (bands 0 4) 3  -- AE: 55/50/45
+    ∷ layoutFactor (bands 1 3) 1  -- BD: 75/70/60
+    ∷ layoutFactor (bands 4 1) 3  -- BE: 70/65/55
+    ∷ layoutFactor (bands 3 4) 3  -- DD, DE, EE: 100/100/100
     ∷ points itemPoints 8191  -- all items
     ∷ points itemPointsUnderTen 8191
-    ∷ deteriorationFactor 8191 2056 1 .upper  -- under ten, corridor and outer wall (items 4, 12) marked: worth 5
-    ∷ deteriorationFactor 8191 2056 1 .lower
-    ∷ deteriorationFactor 5919 7 2 .upper  -- items 6, 7, 8 and 12 absent, items 1, 2, 3 marked: just 7/10, and not below
-    ∷ deteriorationFactor 5919 7 2 .lower
-    ∷ scoreBeforeLayout 16_000_000 16_000_000_000 (fraction 1 1)  -- as much held as required
-    ∷ scoreBeforeLayout 2_340_000 16_000_000_000 (fraction 20 24)  -- P10 in zone 100 with marks worth 4
-    ∷ score 16_000_000 100_000_000 100 (fraction 1 1)  -- "at most 999"
-    ∷ band 120_000_000_000 60_000_000_000_000  -- 120,000 kN held, 60,000 kN required: E
-    ∷ score 120_000_000_000 60_000_000_000_000 100 (fraction 1 1)
-    ∷ cappedScore 120_000_000_000 60_000_000_000_000 100 (fraction 1 1)  -- computed with 60,000 kN held
-    ∷ score 60_000_000_000 120_000_000_000_000 100 (fraction 1 1)  -- 60,000 kN held, 120,000 kN required
-    ∷ cappedScore 60_000_000_000 120_000_000_000_000 100 (fraction 1 1)  -- computed with 60,000 kN required
+    ∷ deteriorationFactor (items 8191 2056) 1 .upper  -- under ten, corridor and outer wall (items 4, 12) marked: worth 5
+    ∷ deteriorationFactor (items 8191 2056) 1 .lower
+    ∷ deteriorationFactor (items 5919 7) 2 .upper  -- items 6, 7, 8 and 12 absent, items 1, 2, 3 marked: just 7/10, and not below
+    ∷ deteriorationFactor (items 5919 7) 2 .lower
+    ∷ scoreBeforeLayout (strengths 16_000_000 16_000_000_000) (fraction 1 1)  -- as much held as required
+    ∷ scoreBeforeLayout (strengths 2_340_000 16_000_000_000) (fraction 20 24)  -- P10 in zone 100 with marks worth 4
+    ∷ score (strengths 16_000_000 100_000_000) 100 (fraction 1 1)  -- "at most 999"
+    ∷ band (strengths 120_000_000_000 60_000_000_000_000)  -- 120,000 kN held, 60,000 kN required: E
+    ∷ score (strengths 120_000_000_000 60_000_000_000_000) 100 (fraction 1 1)
+    ∷ cappedScore (strengths 120_000_000_000 60_000_000_000_000) 100 (fraction 1 1)  -- computed with 60,000 kN held
+    ∷ score (strengths 60_000_000_000 120_000_000_000_000) 100 (fraction 1 1)  -- 60,000 kN held, 120,000 kN required
+    ∷ cappedScore (strengths 60_000_000_000 120_000_000_000_000) 100 (fraction 1 1)  -- computed with 60,000 kN required
     ∷ []
 
 abbrev pub expected : List ℕ
@@ -186,14 +222,14 @@ expected =
 -- The layout factors of every pair of a lower and a higher band (A is 0, E is 4), each by floor type 1/2/3, in the order of document 01's table,
 abbrev pub layoutTable : List (List ℕ)
 layoutTable =
-    byFloorType 0 0 ∷ byFloorType 1 1 ∷ byFloorType 1 2 ∷ byFloorType 2 2 ∷ byFloorType 2 3 ∷ byFloorType 2 4  -- AA, BB, BC, CC, CD, CE
-    ∷ byFloorType 0 1  -- AB
-    ∷ byFloorType 0 2  -- AC
-    ∷ byFloorType 0 3  -- AD
-    ∷ byFloorType 0 4  -- AE
-    ∷ byFloorType 1 3  -- BD
-    ∷ byFloorType 1 4  -- BE
-    ∷ byFloorType 3 3 ∷ byFloorType 3 4 ∷ byFloorType 4 4  -- DD, DE, EE
+    byFloorType (bands 0 0) ∷ byFloorType (bands 1 1) ∷ byFloorType (bands 1 2) ∷ byFloorType (bands 2 2) ∷ byFloorType (bands 2 3) ∷ byFloorType (bands 2 4)  -- AA, BB, BC, CC, CD, CE
+    ∷ byFloorType (bands 0 1)  -- AB
+    ∷ byFloorType (bands 0 2)  -- AC
+    ∷ byFloorType (bands 0 3)  -- AD
+    ∷ byFloorType (bands 0 4)  -- AE
+    ∷ byFloorType (bands 1 3)  -- BD
+    ∷ byFloorType (bands 1 4)  -- BE
+    ∷ byFloorType (bands 3 3) ∷ byFloorType (bands 3 4) ∷ byFloorType (bands 4 4)  -- DD, DE, EE
     ∷ []
 
 -- and what that table says.

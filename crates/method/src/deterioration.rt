@@ -1,4 +1,5 @@
 // How far deterioration lowers a house's strength, by the parts that are present and those marked.
+use crate::rows::Items;
 ghost use mathlib.Core.Path.{_≡_};
 ghost use Prim.Native.Nat.{_≤_};
 ghost use lib.Bits.{bitAnd};
@@ -73,9 +74,9 @@ fn factor_of(present: u32, marked: u32) -> Fraction
     }
 }
 
-// The deterioration factor of a present set, a marked set and an age.
-pub fn deterioration_factor(present: u32, marked: u32, age: u32) -> Fraction
-    ensures { λ r. ⌜ r ≡ deteriorationFactor present marked age ⌝ }
+// The deterioration factor of the items and an age.
+pub fn deterioration_factor(items: Items, age: u32) -> Fraction
+    ensures { λ r. ⌜ r ≡ deteriorationFactor items age ⌝ }
 {
-    factor_of(points(present), counted_marks(marked, age))
+    factor_of(points(items.present), counted_marks(items.marked, age))
 }

@@ -1,4 +1,6 @@
 // The joint factor (000's Kj): how far the joints at its columns lower a solid wall.
+use crate::rows::House;
+use crate::rows::Wall;
 ghost use mathlib.Core.Path.{_≡_};
 ghost use Prim.Native.Nat.{_<_, _≤_};
 ghost use Rattle.method.specs.Held.{position, foundationUsed, sharedRow, entry, interpolated, rowFactor, jointFactor};
@@ -30,9 +32,10 @@ const ONE_STOREY: [[[u8; 3]; 4]; 3] = [
 ];
 
 // Which of the three tables a storey takes.
-fn position(storeys: u32, storey: u32) -> u32
-    ensures { λ r. ⌜ r ≡ position storeys storey ⌝ }
+fn position(house: House, storey: u32) -> u32
+    ensures { λ r. ⌜ r ≡ position house storey ⌝ }
 {
+    let storeys = house.storeys;
     if storeys == 1 {
         return 3;
     }
@@ -43,15 +46,16 @@ fn position(storeys: u32, storey: u32) -> u32
 }
 
 // The foundation whose column a storey takes.
-fn foundation_used(storeys: u32, storey: u32, foundation: u32) -> u32
-    ensures { λ r. ⌜ r ≡ foundationUsed storeys storey foundation ⌝ }
+fn foundation_used(house: House, storey: u32) -> u32
+    ensures { λ r. ⌜ r ≡ foundationUsed house storey ⌝ }
 {
+    let storeys = house.storeys;
     if storeys == 3 {
         if storey == 2 {
             return 1;
         }
     }
-    foundation
+    house.foundation
 }
 
 // The line of table 3 that a joint takes.
@@ -128,10 +132,10 @@ fn row_factor(position: u32, foundation: u32, joint: u32, strength: u32) -> u32
 }
 
 // The joint factor of a solid wall, in hundredths; 0 where its table has no such entry.
-pub fn joint_factor(storeys: u32, storey: u32, foundation: u32, joint: u32, strength: u32) -> u8
-    ensures { λ r. ⌜ r ≡ jointFactor storeys storey foundation joint strength ⌝ }
+pub fn joint_factor(house: House, storey: u32, wall: Wall) -> u8
+    ensures { λ r. ⌜ r ≡ jointFactor house storey wall ⌝ }
 {
-    let position = position(storeys, storey);
-    let used = foundation_used(storeys, storey, foundation);
-    row_factor(position, used, joint, strength) as u8
+    let position = position(house, storey);
+    let used = foundation_used(house, storey);
+    row_factor(position, used, wall.joint, wall.strength) as u8
 }

@@ -1,4 +1,7 @@
 // How far the layout of walls lowers a storey's strength: the bands of its ends, and its floor.
+use crate::rows::Bands;
+use crate::rows::Storey;
+use crate::rows::Strengths;
 ghost use mathlib.Core.Path.{_≡_};
 ghost use Prim.Native.Nat.{_≤_};
 ghost use Rattle.method.specs.LayoutFactor.{reached, band, floorType, layoutFactor};
@@ -46,33 +49,32 @@ const LAYOUT_FACTORS: [[[u8; 3]; 5]; 5] = [
 // 1 where an end's sufficiency is at least so many hundredths, else 0. That is where limit × required
 // is at most 100,000 × held, but such products may be beyond a u64. So the required strength is taken
 // apart, and limit × required / 100,000, rounded up, is compared with what is held.
-fn reached(held: u64, required: u64, limit: u64) -> u32
+fn reached(end: Strengths, limit: u64) -> u32
     requires { ⌜ limit ≤ 133 ⌝ }
-    ensures { λ r. ⌜ r ≡ reached held required limit ⌝ }
+    ensures { λ r. ⌜ r ≡ reached end limit ⌝ }
 {
+    let required = end.required;
     let whole = limit * (required / 100_000);
     let rest = (limit * (required % 100_000) + 99_999) / 100_000;
-    if whole + rest <= held {
+    if whole + rest <= end.held {
         return 1;
     }
     0
 }
 
 // The band of an end, A as 0 to E as 4, by its solid walls' held strength and its required strength.
-pub fn band(held: u64, required: u64) -> u32
-    ensures { λ r. ⌜ r ≡ band held required ⌝ }
+pub fn band(end: Strengths) -> u32
+    ensures { λ r. ⌜ r ≡ band end ⌝ }
 {
-    reached(held, required, 33)
-        + reached(held, required, 66)
-        + reached(held, required, 100)
-        + reached(held, required, 133)
+    reached(end, 33) + reached(end, 66) + reached(end, 100) + reached(end, 133)
 }
 
-// The floor type that counts, where there is a void (1) or none (0).
-pub fn floor_type(floor: u32, void: u32) -> u32
-    ensures { λ r. ⌜ r ≡ floorType floor void ⌝ }
+// A storey's floor type, a void taken into account.
+pub fn floor_type(storey: Storey) -> u32
+    ensures { λ r. ⌜ r ≡ floorType storey ⌝ }
 {
-    if void == 1 {
+    let floor = storey.floor;
+    if storey.void == 1 {
         if floor < 3 {
             return floor + 1;
         }
@@ -83,13 +85,15 @@ pub fn floor_type(floor: u32, void: u32) -> u32
 
 // The layout factor for the bands of both ends and a floor type, in hundredths; 0 where there is no such
 // band or floor type.
-pub fn layout_factor(one: u32, other: u32, floor: u32) -> u8
-    ensures { λ r. ⌜ r ≡ layoutFactor one other floor ⌝ }
+pub fn layout_factor(ends: Bands, floor: u32) -> u8
+    ensures { λ r. ⌜ r ≡ layoutFactor ends floor ⌝ }
 {
-    if 5 <= one {
+    let a = ends.a;
+    let b = ends.b;
+    if 5 <= a {
         return 0;
     }
-    if 5 <= other {
+    if 5 <= b {
         return 0;
     }
     if floor < 1 {
@@ -98,5 +102,5 @@ pub fn layout_factor(one: u32, other: u32, floor: u32) -> u8
     if 3 < floor {
         return 0;
     }
-    LAYOUT_FACTORS[one as usize][other as usize][(floor - 1) as usize]
+    LAYOUT_FACTORS[a as usize][b as usize][(floor - 1) as usize]
 }

@@ -1,4 +1,4 @@
-// The manual's arithmetic on plain numbers, table by table and factor by factor.
+// The manual's arithmetic, table by table and factor by factor, on what a table's rows say.
 //
 // Uses no crate. Document 01, "Held strength" (joints, held), "Required strength" (required), "Layout
 // factor" (layout), "Deterioration factor" (deterioration) and "Score and verdict" (scores); the
@@ -9,8 +9,9 @@ mod deterioration;
 mod held;
 mod joints;
 mod layout;
-mod limits;
+mod most_strengths;
 mod required;
+mod rows;
 mod scores;
 
 pub use deterioration::Fraction;
@@ -22,5 +23,12 @@ pub use layout::floor_type;
 pub use layout::layout_factor;
 pub use required::narrow_factor;
 pub use required::required_strength;
+pub use rows::Bands;
+pub use rows::House;
+pub use rows::Items;
+pub use rows::HousePart;
+pub use rows::Storey;
+pub use rows::Strengths;
+pub use rows::Wall;
 pub use scores::score;
 pub use scores::verdict;

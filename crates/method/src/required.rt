@@ -1,4 +1,7 @@
 // The strength that a storey, or an end of it, must have, in 0.000000001 kN.
+use crate::rows::House;
+use crate::rows::HousePart;
+use crate::rows::Storey;
 ghost use mathlib.Core.Path.{_≡_};
 ghost use Rattle.method.specs.Required.{topLine, constant, groundFactor, narrowFactor, requiredStrength};
 
@@ -25,10 +28,12 @@ fn top_line(storeys: u32) -> u32
     3
 }
 
-// The constant of a storey of a part with so many storeys; 0 where the table has none.
-fn constant(storeys: u32, storey: u32, weight: u32) -> u8
-    ensures { λ r. ⌜ r ≡ constant storeys storey weight ⌝ }
+// The constant of a part's storey and the house's weight class; 0 where the table has none.
+fn constant(part: HousePart, weight: u32) -> u8
+    ensures { λ r. ⌜ r ≡ constant part weight ⌝ }
 {
+    let storey = part.storey;
+    let storeys = part.storeys;
     if storey < 1 {
         return 0;
     }
@@ -58,35 +63,29 @@ fn ground_factor(ground: u32) -> u8
     15
 }
 
-// The narrow factor of a storey, in hundredths, by the house's storeys and its own short side in mm.
-pub fn narrow_factor(storeys: u32, storey: u32, side: u32) -> u8
-    ensures { λ r. ⌜ r ≡ narrowFactor storeys storey side ⌝ }
+// The narrow factor of a storey of a house, in hundredths.
+pub fn narrow_factor(house: House, storey: Storey) -> u8
+    ensures { λ r. ⌜ r ≡ narrowFactor house storey ⌝ }
 {
-    if storeys < 2 {
+    if house.storeys < 2 {
         return 100;
     }
-    if storey == 1 {
-        if side < 4000 {
+    if storey.number == 1 {
+        if storey.side < 4000 {
             return 113;
         }
     }
     100
 }
 
-// The required strength of a storey, or of an end: then the storeys are its part's, the area is its own,
-// and the rest is its storey's. Area is in 0.01 m², zone and narrow factor in hundredths.
-pub fn required_strength(
-    storeys: u32,
-    storey: u32,
-    weight: u32,
-    area: u32,
-    zone: u8,
-    ground: u32,
-    narrow: u8,
-) -> u64
-    ensures { λ r. ⌜ r ≡ requiredStrength storeys storey weight area zone ground narrow ⌝ }
+// What is required of a part of the house, a storey or an end of it, by its storey's narrow factor in
+// hundredths.
+pub fn required_strength(house: House, part: HousePart, narrow: u8) -> u64
+    ensures { λ r. ⌜ r ≡ requiredStrength house part narrow ⌝ }
 {
-    let constant = constant(storeys, storey, weight);
-    let factor = ground_factor(ground);
+    let zone = house.zone;
+    let area = part.area;
+    let constant = constant(part, house.weight);
+    let factor = ground_factor(house.ground);
     constant as u64 * area as u64 * zone as u64 * factor as u64 * narrow as u64
 }

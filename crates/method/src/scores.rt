@@ -1,18 +1,19 @@
 // A storey and direction's score in hundredths, and a house's verdict.
 use crate::deterioration::Fraction;
-use crate::limits::MOST_HELD;
-use crate::limits::MOST_REQUIRED;
-use crate::limits::smaller;
+use crate::most_strengths::MOST_HELD;
+use crate::most_strengths::MOST_REQUIRED;
+use crate::most_strengths::smaller;
+use crate::rows::Strengths;
 ghost use mathlib.Core.Path.{_≡_};
 ghost use Rattle.method.specs.Score.{cappedScore, verdict};
 
-// The score of a held strength, a required strength, a layout factor in hundredths and a deterioration
-// factor. Strengths above 60,000 kN count as that. Where nothing is required, as in no house, it is 0.
-pub fn score(held: u64, required: u64, layout: u8, deterioration: Fraction) -> u32
-    ensures { λ r. ⌜ r ≡ cappedScore held required layout deterioration ⌝ }
+// The score of what is held and required, a layout factor in hundredths and a deterioration factor.
+// Strengths above 60,000 kN count as that. Where nothing is required, as in no house, it is 0.
+pub fn score(strengths: Strengths, layout: u8, deterioration: Fraction) -> u32
+    ensures { λ r. ⌜ r ≡ cappedScore strengths layout deterioration ⌝ }
 {
-    let holds = smaller(held, MOST_HELD);
-    let needs = smaller(required, MOST_REQUIRED);
+    let holds = smaller(strengths.held, MOST_HELD);
+    let needs = smaller(strengths.required, MOST_REQUIRED);
     let divisor = needs * deterioration.lower as u64;
     if divisor == 0 {
         return 0;

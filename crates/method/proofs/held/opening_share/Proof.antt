@@ -9,6 +9,9 @@ use Rattle.method.proofs.held.opening_share.Tie as tie
 mul-result : tie.Need-mul-result
 mul-result c = search needs
 
+cast-smaller : tie.Need-cast-smaller
+cast-smaller c = search needs
+
 smaller-requires : tie.Need-smaller-requires
 smaller-requires c κs = search needs
 
@@ -20,4 +23,4 @@ unfolding openingShare
 returns c = rw (← c .smaller .ensures)
 
 pub opening-share-spec : {M : Type 1} → statement M
-opening-share-spec = tie.close (tie.spec mul-result smaller-requires mul-result-2 returns)
+opening-share-spec = tie.close (tie.spec mul-result cast-smaller smaller-requires mul-result-2 returns)

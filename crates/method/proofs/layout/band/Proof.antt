@@ -14,16 +14,16 @@ reached-requires-2 : tie.Need-reached-requires-2
 reached-requires-2 c κs = search needs
 
 one : (c : tie.After-reached) → c .reached .result ≤ 1
-one c = rw (c .reached .ensures) (reached-most _ _ _)
+one c = rw (c .reached .ensures) (reached-most _ _)
 
 two : (c : tie.After-reached2) → c .reached2 .result ≤ 1
-two c = rw (c .reached2 .ensures) (reached-most _ _ _)
+two c = rw (c .reached2 .ensures) (reached-most _ _)
 
 three : (c : tie.After-reached3) → c .reached3 .result ≤ 1
-three c = rw (c .reached3 .ensures) (reached-most _ _ _)
+three c = rw (c .reached3 .ensures) (reached-most _ _)
 
 four : (c : tie.After-reached4) → c .reached4 .result ≤ 1
-four c = rw (c .reached4 .ensures) (reached-most _ _ _)
+four c = rw (c .reached4 .ensures) (reached-most _ _)
 
 add-result : tie.Need-add-result
 add-result c = omega (arith, one (c .before), two c)

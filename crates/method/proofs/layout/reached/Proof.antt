@@ -14,10 +14,10 @@ mul-whole c = times-fits 133 184_467_440_737_095 (omega arith) (omega arith) tt
 mul-rest : tie.Need-mul-rest
 mul-rest c = times-fits 133 99_999 (omega arith) (omega arith) tt
 
-whole-most : (c : tie.Start) → c .args .limit * (c .args .required / 100_000) ≤ 133 * 184_467_440_737_095
+whole-most : (c : tie.Start) → c .args .limit * (c .args .end .required / 100_000) ≤ 133 * 184_467_440_737_095
 whole-most c = times-most 133 184_467_440_737_095 (omega arith) (omega arith)
 
-rest-most : (c : tie.Start) → c .args .limit * (c .args .required % 100_000) ≤ 133 * 99_999
+rest-most : (c : tie.Start) → c .args .limit * (c .args .end .required % 100_000) ≤ 133 * 99_999
 rest-most c = times-most 133 99_999 (omega arith) (omega arith)
 
 add-rest : tie.Need-add-rest

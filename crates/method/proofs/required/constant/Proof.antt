@@ -8,19 +8,19 @@ use Rattle.method.proofs.required.constant.Statement.{statement}
 use Rattle.method.proofs.required.constant.Tie as tie
 
 returns : tie.Need-returns
-returns c = constant-no-storey _ _ _ (search branches)
+returns c = constant-no-storey _ _ (search branches)
 
 returns-2 : tie.Need-returns-2
-returns-2 c = constant-no-storey _ _ _ (search branches)
+returns-2 c = constant-no-storey _ _ (search branches)
 
 returns-3 : tie.Need-returns-3
-returns-3 c = constant-no-storey _ _ _ (search branches)
+returns-3 c = constant-no-storey _ _ (search branches)
 
 returns-4 : tie.Need-returns-4
-returns-4 c = constant-no-class _ _ _ (λ some most. omega arith)
+returns-4 c = constant-no-class _ _ (λ some most. omega arith)
 
 returns-5 : tie.Need-returns-5
-returns-5 c = constant-no-class _ _ _ (λ some most. omega arith)
+returns-5 c = constant-no-class _ _ (λ some most. omega arith)
 
 top-line-requires : tie.Need-top-line-requires
 top-line-requires c κs = search needs
@@ -47,7 +47,7 @@ index-2-result : tie.Need-index-2-result
 index-2-result c = search needs
 
 returns-6 : tie.Need-returns-6
-returns-6 c = rw (c .before .top-line .ensures) (constant-is _ _ _ (omega arith) (omega arith) (omega arith) (omega arith))
+returns-6 c = rw (c .before .top-line .ensures) (constant-is _ _ (omega arith) (omega arith) (omega arith) (omega arith))
 
 pub constant-spec : {M : Type 1} → statement M
 constant-spec =

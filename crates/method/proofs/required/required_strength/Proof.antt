@@ -16,17 +16,23 @@ ground-factor-requires c κs = search needs
 cast-result : tie.Need-cast-result
 cast-result c = search needs
 
+cast-result-2 : tie.Need-cast-result-2
+cast-result-2 c = search needs
+
 mul-result : tie.Need-mul-result
 mul-result c = times-fits 255 4_294_967_295 (omega arith) (omega arith) tt
 
-constant-area : (c : tie.After-ground-factor) → c .before .constant .result * c .before .before .args .area ≤ 255 * 4_294_967_295
+constant-area : (c : tie.After-ground-factor) → c .before .constant .result * c .before .before .args .part .area ≤ 255 * 4_294_967_295
 constant-area c = times-most 255 4_294_967_295 (omega arith) (omega arith)
+
+cast-result-3 : tie.Need-cast-result-3
+cast-result-3 c = search needs
 
 mul-result-2 : tie.Need-mul-result-2
 mul-result-2 c = times-fits (255 * 4_294_967_295) 255 (constant-area c) (omega arith) tt
 
-cast-result-2 : tie.Need-cast-result-2
-cast-result-2 c = search needs
+cast-result-4 : tie.Need-cast-result-4
+cast-result-4 c = search needs
 
 mul-result-3 : tie.Need-mul-result-3
 mul-result-3 c = times-fits (255 * 4_294_967_295 * 255) 255 (times-most (255 * 4_294_967_295) 255 (constant-area c) (omega arith)) (omega arith) tt
@@ -47,9 +53,11 @@ required-strength-spec =
     constant-requires
     ground-factor-requires
     cast-result
-    mul-result
-    mul-result-2
     cast-result-2
+    mul-result
+    cast-result-3
+    mul-result-2
+    cast-result-4
     mul-result-3
     mul-result-4
     returns)

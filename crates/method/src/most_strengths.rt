@@ -1,4 +1,4 @@
-// The smaller of two numbers, and the strengths beyond which no storey goes.
+// The most that a storey can hold or need, and the smaller of two numbers.
 ghost use mathlib.Core.Path.{_≡_};
 ghost use Prim.Native.Nat.{min};
 

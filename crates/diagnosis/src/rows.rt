@@ -1,0 +1,116 @@
+// What the rows of a table say, each by value, as `method` takes it. A row's struct is filled here and
+// nowhere else.
+use answer::ROW;
+use method::House;
+use method::HousePart;
+use method::Items;
+use method::Storey;
+use method::Wall;
+use survey::cell;
+use survey::columns::END_AREA;
+use survey::columns::FLOOR_AREA;
+use survey::columns::FLOOR_TYPE;
+use survey::columns::FOUNDATION;
+use survey::columns::GROUND;
+use survey::columns::JOINT;
+use survey::columns::LENGTH;
+use survey::columns::MARKED;
+use survey::columns::PART_STOREYS;
+use survey::columns::PRESENT;
+use survey::columns::SHORT_SIDE;
+use survey::columns::STOREYS;
+use survey::columns::STRENGTH;
+use survey::columns::VOID;
+use survey::columns::WALL_TYPE;
+use survey::columns::WEIGHT;
+use survey::columns::ZONE;
+ghost use mathlib.Core.Path.{_≡_};
+ghost use Prim.Native.Nat.{_≤_};
+ghost use Rattle.diagnosis.specs.Rows.{storeyOf, storeyPart, endPart, wallOf, itemsOf};
+ghost use Rattle.diagnosis.specs.House.{InHouse};
+ghost use Rattle.diagnosis.specs.Internal.{Stands, HouseOf};
+
+// The house row of an accepted table.
+pub(crate) fn house_of(table: &[u32]) -> House
+    requires { ⌜ Stands (now table) ⌝ }
+    ensures { λ r. ⌜ HouseOf (now (table .entry)) r ⌝ }
+{
+    House {
+        storeys: cell(table, 0, STOREYS),
+        weight: cell(table, 0, WEIGHT),
+        zone: cell(table, 0, ZONE) as u8,
+        ground: cell(table, 0, GROUND),
+        foundation: cell(table, 0, FOUNDATION),
+    }
+}
+
+// A storey's row, which is the row of its number.
+pub(crate) fn storey_of(table: &[u32], storey: usize) -> Storey
+    requires { ⌜ storey ≤ 3 ⌝ }
+    ensures { λ r. ⌜ r ≡ storeyOf (now (table .entry)) storey ⌝ }
+{
+    Storey {
+        number: storey as u32,
+        area: cell(table, storey, FLOOR_AREA),
+        side: cell(table, storey, SHORT_SIDE),
+        floor: cell(table, storey, FLOOR_TYPE),
+        void: cell(table, storey, VOID),
+    }
+}
+
+// A whole storey as a part that strength is required of.
+pub(crate) fn storey_part(house: House, storey: Storey) -> HousePart
+    ensures { λ r. ⌜ r ≡ storeyPart house storey ⌝ }
+{
+    HousePart {
+        storey: storey.number,
+        storeys: house.storeys,
+        area: storey.area,
+    }
+}
+
+// An end of a storey in a direction, 0 for end a and 1 for end b, as a part that strength is required of.
+pub(crate) fn end_part(
+    table: &[u32],
+    house: House,
+    storey: usize,
+    direction: usize,
+    end: usize,
+) -> HousePart
+    requires house { ⌜ HouseOf (now table) house ⌝ }
+    requires storey { ⌜ InHouse (now table) storey direction ⌝ }
+    requires end { ⌜ end ≤ 1 ⌝ }
+    ensures { λ r. ⌜ r ≡ endPart (now (table .entry)) storey direction end ⌝ }
+{
+    let storeys = house.storeys as usize;
+    let row = storeys + 1 + 2 * (storey - 1) + (direction - 1);
+    HousePart {
+        storey: storey as u32,
+        storeys: cell(table, row, PART_STOREYS + end),
+        area: cell(table, row, END_AREA + end),
+    }
+}
+
+// A wall, by its row.
+pub(crate) fn wall_of(wall: &[u32]) -> Wall
+    ensures { λ r. ⌜ r ≡ wallOf (now (wall .entry)) 0 ⌝ }
+{
+    Wall {
+        strength: cell(wall, 0, STRENGTH),
+        length: cell(wall, 0, LENGTH),
+        joint: cell(wall, 0, JOINT),
+        walltype: cell(wall, 0, WALL_TYPE),
+    }
+}
+
+// The parts row of an accepted table.
+pub(crate) fn items_of(table: &[u32]) -> Items
+    requires { ⌜ Stands (now table) ⌝ }
+    ensures { λ r. ⌜ r ≡ itemsOf (now (table .entry)) ⌝ }
+{
+    let parts = table.len() / ROW - 1;
+    Items {
+        present: cell(table, parts, PRESENT),
+        marked: cell(table, parts, MARKED),
+    }
+}
