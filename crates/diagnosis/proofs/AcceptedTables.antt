@@ -10,7 +10,9 @@ use Rattle.survey.specs.Acceptance.{Accepted}
 use Rattle.survey.proofs.Acceptance.{accepted, accepted-zone}
 use Rattle.method.specs.Required.{mostRequired}
 use Rattle.method.proofs.Requirements.{narrow-most, required-most}
-use Rattle.diagnosis.specs.House.{zone, requiredOf, required}
+use Rattle.diagnosis.specs.Rows.{houseOf, storeyOf, storeyPart}
+use Rattle.diagnosis.specs.House.{narrow, requiredOf, required}
+use Rattle.diagnosis.specs.Internal.{Stands}
 
 module _ (table : List ℕ) (h : judging table .number ≡ 0) where
   a : Accepted table
@@ -19,18 +21,16 @@ module _ (table : List ℕ) (h : judging table .number ≡ 0) where
   pub storeys-few : (1 ≤ storeys table) × (storeys table ≤ 3)
   storeys-few = a .house-inside 1 (omega arith)
 
-  pub house-inside : 8 ≤ length table
-  house-inside = omega (arith, a .sizes)
+  pub stands : Stands table
+  stands = record { accepted = h; some = storeys-few .0; few = storeys-few .1; long = omega (arith, a .sizes); zoned = accepted-zone a .1 }
 
   -- The parts row is the last.
   pub parts-last : length table / 8 - 1 ≡ partsRow table
   parts-last = omega (arith, a .sizes)
 
-  pub zone-most : zone table ≤ 100
-  zone-most = accepted-zone a .1
-
   -- No storey needs more than `method` computes a score with.
   pub required-within : {storey : ℕ} → 1 ≤ storey → storey ≤ storeys table → required table storey ≤ mostRequired
-  unfolding required requiredOf
+  unfolding required requiredOf narrow
   required-within {storey} some most =
-      required-most (storeys table) storey _ _ (a .storey-inside storey some most 2 (omega arith) .1) zone-most (narrow-most (storeys table) storey _)
+      required-most (houseOf table) (storeyPart (houseOf table) (storeyOf table storey)) (a .storey-inside storey some most 2 (omega arith) .1)
+      (accepted-zone a .1) (narrow-most (houseOf table) (storeyOf table storey))

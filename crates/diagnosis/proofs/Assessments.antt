@@ -1,40 +1,109 @@
--- What is worked out for a storey and direction: the score that is computed is the one that is defined, and a row of the report can be made of
--- it. Assumes nothing.
-use mathlib.Core.Path.{_≡_}
+-- What is worked out for a house: the score that is computed is the one that is defined; its own sums can be worked out with; and its record and
+-- report are those of its table. Assumes nothing.
+use mathlib.Core.Path.{_≡_, refl, _∙_}
+use mathlib.Core.Bool.{Bool, true, false, cond}
 use mathlib.Core.List.{List}
-use Prim.Native.Nat.{ℕ, _<_, _≤_}
+use Prim.Native.Nat.{ℕ, zero, suc, _+_, _*_, _<_, _≤_}
+use native.Mathlib.Omega.{arith}
+use lib.ListN.{length, getD}
+use lib.Dec.{ltb}
+use borrow.Author.Tests.{le-leb, eq-eqb}
+use Rattle.answer.specs.Told.{counted, refusal, accepts, lent-space-short}
+use Rattle.answer.specs.Lists.{joined, over}
 use Rattle.survey.specs.Table.{storeys}
 use Rattle.survey.specs.Judgement.{judging}
-use Rattle.method.specs.declared.deterioration.Fraction.{Fraction}
 use Rattle.method.specs.Held.{mostHeld}
-use Rattle.method.specs.Required.{mostRequired}
 use Rattle.method.specs.Score.{cappedScore}
 use Rattle.method.proofs.Fractions.{deterioration-bounded}
 use Rattle.method.proofs.Comparisons.{capped-score}
-use Rattle.diagnosis.specs.declared.assessment.Assessment.{Assessment}
-use Rattle.diagnosis.specs.House.{age, present, marked, held, required, layout, deterioration, fullScore, assessment}
-use Rattle.diagnosis.proofs.AcceptedTables.{required-within}
+use Rattle.diagnosis.specs.Rows.{itemsOf, age}
+use Rattle.diagnosis.specs.House.{layout, deterioration, strengthsWith, scoreWith, scores, leastScore, houseVerdict}
+use Rattle.diagnosis.specs.Answers.{recordOf}
+use Rattle.diagnosis.specs.Report.{resultRows, reportRows, reportLines, reportBytes, reporting, afterReporting}
+use Rattle.diagnosis.specs.Internal.{heldSums, six, storeyAt, directionAt, noSums, noAssessment, sumsIn, houseSums, AllFit, allHeld, assessmentAt, houseAssessmentWith, houseAssessment, recordBy, bytesBy, Printable, reportingBy, afterReportingBy}
+use Rattle.diagnosis.proofs.AcceptedTables.{storeys-few, required-within}
 use Rattle.diagnosis.proofs.Sums.{storey-held-most}
+use Rattle.diagnosis.proofs.SixPlaces.{six-at}
 
--- What `score` answers for an accepted table's strengths is the full score: they are within what it computes with.
-pub score-is : (table : List ℕ) → judging table .number ≡ 0 → (storey direction : ℕ) → 1 ≤ storey → storey ≤ storeys table
-    → cappedScore (held table storey direction) (required table storey) (layout table storey direction) (deterioration table)
-    ≡ fullScore table storey direction
-unfolding fullScore
-score-is table h storey direction some most =
-    capped-score (layout table storey direction) (deterioration table) (storey-held-most table h storey direction) (required-within table h some most)
+-- What `score` answers for strengths that an accepted table's storey may have is the score: they are within what it computes with.
+pub score-is : (table : List ℕ) → judging table .number ≡ 0 → (storey direction : ℕ) → 1 ≤ storey → storey ≤ storeys table → {held : ℕ} → held ≤ mostHeld
+    → cappedScore (strengthsWith table held storey) (layout table storey direction) (deterioration table) ≡ scoreWith table held storey direction
+unfolding scoreWith
+score-is table h storey direction some most {held} small =
+    capped-score (strengthsWith table held storey) (layout table storey direction) (deterioration table) small (required-within table h some most)
 
 -- The lower number of the deterioration factor is positive.
 pub lower-some : (table : List ℕ) → 0 < deterioration table .lower
 unfolding deterioration
-lower-some table = deterioration-bounded (present table) (marked table) (age table) .lower-positive
+lower-some table = deterioration-bounded (itemsOf table) (age table) .lower-positive
 
--- So a row of the report can be made of them.
-pub row-fits : (table : List ℕ) → judging table .number ≡ 0 → (storey direction : ℕ) → 1 ≤ storey → storey ≤ storeys table
-    → {found : Assessment} {factor : Fraction} → found ≡ assessment table storey direction → factor ≡ deterioration table
-    → (found .held ≤ mostHeld) × (found .required ≤ mostRequired) × (0 < factor .lower)
-row-fits table h storey direction some most e f = (
-  rw e (storey-held-most table h storey direction),
-  rw e (required-within table h some most),
-  rw f (lower-some table),
-)
+module _ (table : List ℕ) (h : judging table .number ≡ 0) where
+  few : (at : ℕ) → at < 2 * storeys table → at < 6
+  few at inside = omega (arith, storeys-few table h)
+
+  sums-are : (at : ℕ) → at < 2 * storeys table → getD (houseSums table) at noSums ≡ heldSums table (storeyAt at) (directionAt at)
+  unfolding houseSums sumsIn
+  sums-are at inside =
+      six-at noSums (λ at. sumsIn table (storeyAt at) (directionAt at)) 6 at (few at inside) (few at inside)
+      ∙ rw (le-leb (storeyAt at) (storeys table) (omega arith))
+
+  -- A house can be worked out by its own sums,
+  pub own-fit : AllFit table (houseSums table)
+  own-fit at inside =
+      rw (sums-are at inside) (record { most = storey-held-most table h (storeyAt at) (directionAt at); at-a = refl; at-b = refl })
+
+  -- and what is worked out so can be printed.
+  pub own-printable : Printable (houseAssessment table)
+  unfolding houseAssessmentWith
+  own-printable = record {
+    few = omega (arith, storeys-few table h);
+    lower-some = lower-some table;
+    held-most = λ at inside.
+        rw (six-at noAssessment (assessmentAt table (allHeld (houseSums table))) (2 * storeys table) at inside (few at inside), sums-are at inside)
+        (storey-held-most table h (storeyAt at) (directionAt at));
+    required-most = λ at inside.
+        rw (six-at noAssessment (assessmentAt table (allHeld (houseSums table))) (2 * storeys table) at inside (few at inside))
+        (required-within table h (omega arith) (omega arith));
+  }
+
+  -- The record and the report, by how many storeys there are.
+  pub record-is : recordBy (houseAssessment table) ≡ recordOf table
+  unfolding houseAssessmentWith houseSums sumsIn six recordOf houseVerdict leastScore scores joined over
+  record-is = go (storeys table) refl (storeys-few table h .1)
+    where
+      go : (n : ℕ) → storeys table ≡ n → n ≤ 3 → recordBy (houseAssessment table) ≡ recordOf table
+      go zero e l = simp e
+      go (suc zero) e l = simp e
+      go (suc (suc zero)) e l = simp e
+      go (suc (suc (suc zero))) e l = simp e
+      go (suc (suc (suc (suc n)))) e l = absurd (omega arith)
+
+  report-bytes : bytesBy (houseAssessment table) ≡ reportBytes table
+  unfolding houseAssessmentWith houseSums sumsIn six reportBytes reportRows resultRows leastScore scores joined
+  report-bytes = go (storeys table) refl (storeys-few table h .1)
+    where
+      go : (n : ℕ) → storeys table ≡ n → n ≤ 3 → bytesBy (houseAssessment table) ≡ reportBytes table
+      go zero e l = simp e
+      go (suc zero) e l = simp e
+      go (suc (suc zero)) e l = simp e
+      go (suc (suc (suc zero))) e l = simp e
+      go (suc (suc (suc (suc n)))) e l = absurd (omega arith)
+
+  count-is : houseAssessment table .count ≡ 2 * storeys table
+  unfolding houseAssessmentWith
+  count-is = refl
+
+  pub report-answer : (lent : ℕ) → reportingBy (houseAssessment table) lent ≡ reporting table lent
+  unfolding reportingBy reporting
+  report-answer lent = rw (count-is, eq-eqb (judging table .number) 0 h)
+
+  pub report-after : (report : List ℕ) → afterReportingBy (houseAssessment table) report ≡ afterReporting table report
+  unfolding afterReportingBy afterReporting reporting
+  report-after report =
+      (λ i. cond (ltb (length report) (65 * (count-is i + 1))) report (over report (report-bytes i)))
+      ∙ rw (eq-eqb (judging table .number) 0 h) (go (ltb (length report) (65 * reportLines table)))
+    where
+      go : (short : Bool) → cond short report (over report (reportBytes table))
+          ≡ cond (accepts (cond short (refusal lent-space-short 0 0) (counted (65 * reportLines table)))) (over report (reportBytes table)) report
+      go true = refl
+      go false = refl

@@ -15,14 +15,18 @@ use Rattle.survey.specs.Walls.{storeyWalls}
 use Rattle.survey.specs.Acceptance.{Accepted}
 use Rattle.survey.proofs.Acceptance.{accepted, accepted-zone}
 use Rattle.survey.proofs.AlikeTables.{parts-row-alike, walls-alike}
+use Rattle.method.specs.declared.rows.HousePart.{HousePart}
+use Rattle.method.specs.Held.{position, foundationUsed, jointFactor, solidShare, wallShare}
 use Rattle.method.specs.Required.{narrowFactor}
+use Rattle.method.specs.LayoutFactor.{NoStronger}
 use Rattle.method.specs.Deterioration.{_at-most_}
 use Rattle.method.proofs.Requirements.{narrow-least, required-rises, required-positive}
 use Rattle.method.proofs.Fractions.{deterioration-falls}
 use Rattle.method.proofs.Comparisons.{score-before-falls, full-score-falls, verdict-rises}
-use Rattle.diagnosis.specs.House.{ground, foundation, present, marked, endA, endB, share, heldWhere, held, endHeld, requiredOf, required, endRequired, endBand, higherBand, storeyFloorType, layout, deterioration, scoreBefore, fullScore, scores, leastScore, houseVerdict}
+use Rattle.diagnosis.specs.Rows.{houseOf, foundation, storeyOf, storeyPart, endA, endB, endPart, present, marked, itemsOf}
+use Rattle.diagnosis.specs.House.{InHouse, share, held, endHeld, narrow, requiredOf, required, endRequired, endStrengths, endBand, higherBand, storeyFloorType, layout, deterioration, strengthsWith, scoreBefore, scoreWith, fullScore, scores, leastScore, houseVerdict}
 use Rattle.diagnosis.specs.Answers.{recordOf}
-use Rattle.diagnosis.specs.Comparison.{houseMayDiffer, partsMayDiffer, mayDiffer, Worse, InHouse, Kept, NoBetter}
+use Rattle.diagnosis.specs.Comparison.{houseMayDiffer, partsMayDiffer, mayDiffer, Worse, Kept, NoBetter}
 use Rattle.diagnosis.proofs.ScoreLists.{scores-length, score-at, record-score, record-told, least-falls, in-house-at}
 use Rattle.diagnosis.proofs.AcceptedTables.{storeys-few}
 use Rattle.diagnosis.proofs.Assessments.{lower-some}
@@ -75,24 +79,24 @@ module _ (A B : List ℕ) (w : Worse A B) where
   walls-same storey = walls-alike A B (w .rows) kinds-same numbers-same (w .A-accepted) (w .B-accepted) wall-same storey
 
   -- So a storey holds the same, and so do its ends.
-  share-same : (storey : ℕ) (walls : List ℕ) → share A storey walls ≡ share B storey walls
-  unfolding share
+  share-same : (storey : ℕ) (walls : List ℕ) → share (houseOf A) storey walls ≡ share (houseOf B) storey walls
+  unfolding wallShare solidShare jointFactor position foundationUsed
   share-same storey walls = fun-ext (λ row. rw (storeys-same, foundation-same))
 
   held-same : (storey direction : ℕ) → held A storey direction ≡ held B storey direction
-  unfolding held heldWhere
+  unfolding held
   held-same storey direction = rw (walls-same storey, share-same storey (storeyWalls B storey))
 
   end-held-same : (storey direction end : ℕ) → endHeld A storey direction end ≡ endHeld B storey direction end
-  unfolding endHeld heldWhere
+  unfolding endHeld
   end-held-same storey direction end = rw (walls-same storey, share-same storey (storeyWalls B storey))
 
   -- The deterioration factor is no higher.
   worn : deterioration B at-most deterioration A
   unfolding deterioration within
   worn =
-      rw (← present-same)
-      (deterioration-falls (present A) (marked A) (marked B) (eqb-true (bitAnd (marked A) (marked B)) (marked A) (w .marks)) (omega (arith, w .no-lower .older)))
+      deterioration-falls (itemsOf A) (itemsOf B) present-same (eqb-true (bitAnd (marked A) (marked B)) (marked A) (w .marks))
+      (omega (arith, w .no-lower .older))
 
   module _ (storey direction : ℕ) (s : InHouse A storey direction) where
     storey-same : (column : ℕ) → column < 8 → cell A storey column ≡ cell B storey column
@@ -102,29 +106,30 @@ module _ (A B : List ℕ) (w : Worse A B) where
     unfolding storeyFloorType
     floor-same = rw (storey-same 4 (omega arith), storey-same 5 (omega arith))
 
-    narrow-same : narrowFactor (storeys A) storey (cell A storey 3) ≡ narrowFactor (storeys B) storey (cell B storey 3)
+    narrow-same : narrow A storey ≡ narrow B storey
+    unfolding narrow narrowFactor
     narrow-same = rw (storeys-same, storey-same 3 (omega arith))
 
     -- What is required of a part of the storey is no less.
-    required-of-rises : (parts area : ℕ) → requiredOf A storey parts area ≤ requiredOf B storey parts area
+    required-of-rises : (a-part b-part : HousePart) → a-part .storey ≡ storey → a-part ≡ b-part → requiredOf A a-part ≤ requiredOf B b-part
     unfolding requiredOf
-    required-of-rises parts area =
-        required-rises parts storey (omega (arith, w .no-lower .heavier)) (b .house-inside 2 (omega arith) .1)
-        (le-refl area) (omega (arith, w .no-lower .higher)) (omega (arith, w .no-lower .softer)) (le-of-eq narrow-same)
+    required-of-rises a-part b-part here same =
+        rw (← same, here)
+        (required-rises (houseOf A) a-part (houseOf B) a-part (omega (arith, w .no-lower .heavier)) (b .house-inside 2 (omega arith) .1)
+        (omega (arith, w .no-lower .higher)) (omega (arith, w .no-lower .softer)) refl refl (le-refl (a-part .area)) (le-of-eq narrow-same))
 
     storey-required : required A storey ≤ required B storey
     unfolding required
-    storey-required =
-        rw (← storeys-same, ← storey-same 2 (omega arith)) (required-of-rises (storeys A) (cell A storey 2))
+    storey-required = required-of-rises _ _ refl (rw (storeys-same, storey-same 2 (omega arith)))
 
     required-some : 0 < required A storey
-    unfolding required requiredOf
+    unfolding required requiredOf narrow
     required-some =
         let class = a .house-inside 2 (omega arith) in
         let area = a .storey-inside storey (s .some-storey) (s .last-storey) 2 (omega arith) in
-        let narrow = narrow-least (storeys A) storey (cell A storey 3) in
-        required-positive (ground A) (s .some-storey) (s .last-storey) (storeys-few A (w .A-accepted) .1) (class .0) (class .1)
-        (area .0) (omega (arith, accepted-zone a)) (omega (arith, narrow))
+        let least = narrow-least (houseOf A) (storeyOf A storey) in
+        required-positive (houseOf A) (storeyPart (houseOf A) (storeyOf A storey)) (s .some-storey) (s .last-storey) (storeys-few A (w .A-accepted) .1)
+        (class .0) (class .1) (area .0) (omega (arith, accepted-zone a)) (omega (arith, least))
 
     -- And of an end.
     ends-same : (column : ℕ) → column < 8 → cell A (endsRow A storey direction) column ≡ cell B (endsRow B storey direction) column
@@ -134,26 +139,26 @@ module _ (A B : List ℕ) (w : Worse A B) where
     end-required : (end : ℕ) → end < 2 → endRequired A storey direction end ≤ endRequired B storey direction end
     unfolding endRequired
     end-required end inside =
-        let row = endsRow A storey direction in
-        rw (← ends-same (5 + end) (omega arith), ← ends-same (3 + end) (omega arith))
-        (required-of-rises (cell A row (5 + end)) (cell A row (3 + end)))
+        required-of-rises _ _ refl (rw (ends-same (5 + end) (omega arith), ends-same (3 + end) (omega arith)))
 
     -- The score before the layout factor is no higher.
+    storey-weaker : NoStronger (strengthsWith A (held A storey direction) storey) (strengthsWith B (held B storey direction) storey)
+    storey-weaker = record { holds = le-of-eq (sym (held-same storey direction)); needs = storey-required }
+
+    end-weaker : (end : ℕ) → end < 2 → NoStronger (endStrengths A storey direction end) (endStrengths B storey direction end)
+    end-weaker end inside = record { holds = le-of-eq (sym (end-held-same storey direction end)); needs = end-required end inside }
+
     before-falls : scoreBefore B storey direction ≤ scoreBefore A storey direction
     unfolding scoreBefore
-    before-falls =
-        score-before-falls (deterioration A) (deterioration B) (le-of-eq (sym (held-same storey direction))) storey-required worn required-some (lower-some A)
+    before-falls = score-before-falls (deterioration A) (deterioration B) storey-weaker worn required-some (lower-some A)
 
     -- Nor is the full score, where the higher band is kept.
     full-falls : Kept A B storey direction → fullScore B storey direction ≤ fullScore A storey direction
-    unfolding fullScore layout endBand higherBand
+    unfolding scoreWith layout endBand higherBand
     full-falls kept =
-        let one = end-held-same storey direction endA in
-        let other = end-held-same storey direction endB in
-        rw (← held-same storey direction, ← one, ← other, ← floor-same)
-        (full-score-falls (held A storey direction) (endHeld A storey direction endA) (endHeld A storey direction endB) (storeyFloorType A storey)
-        (deterioration A) (deterioration B) storey-required (end-required endA (omega arith)) (end-required endB (omega arith)) worn
-        (rw (← one, ← other) at kept) required-some (lower-some A))
+        rw (← floor-same)
+        (full-score-falls (storeyFloorType A storey) (deterioration A) (deterioration B) storey-weaker (end-weaker endA (omega arith))
+        (end-weaker endB (omega arith)) worn kept required-some (lower-some A))
 
   in-both : {storey direction : ℕ} → InHouse A storey direction → InHouse B storey direction
   in-both s = record {

@@ -29,7 +29,8 @@ use Rattle.method.specs.Deterioration.{points, countedMarks, factorOf, deterior
 use Rattle.method.specs.Score.{score, scoreBeforeLayout, verdict}
 use Rattle.method.specs.Worked.{worked, expected}
 use Rattle.method.proofs.Examples.{worked-out}
-use Rattle.diagnosis.specs.House.{endA, endB, share, sharesWhere, heldWhere, inDirection, solidAtEnd, held, endHeld, requiredOf, required, endRequired, endBand, higherBand, storeyFloorType, layout, deterioration, scoreBefore, fullScore, scores, leastOf, leastScore, houseVerdict}
+use Rattle.diagnosis.specs.Rows.{endA, endB}
+use Rattle.diagnosis.specs.House.{inDirection, solidAtEnd, held, endHeld, narrow, requiredOf, required, endRequired, endBand, higherBand, storeyFloorType, layout, deterioration, strengthsWith, scoreBefore, scoreWith, fullScore, scores, leastOf, leastScore, houseVerdict}
 use Rattle.diagnosis.specs.Answers.{recordOf}
 use Rattle.diagnosis.specs.Comparison.{scoreAt}
 use Rattle.diagnosis.specs.Report.{resultRows, reportRows, reportBytes, reporting, refusalLine}
@@ -64,7 +65,7 @@ p10-walls zone known = rw (p10-judged zone known)
 
 -- From the walls on all is computed. Laws below that name this one in their `unfolding` line unfold what it does.
 pub p1-scores : scores p1 ≡ 47 ∷ 83 ∷ []
-unfolding scores joined fullScore scoreBefore layout higherBand endBand endRequired required requiredOf deterioration storeyFloorType held endHeld heldWhere sharesWhere share solidAtEnd inDirection rowsFrom wallRows first nth position foundationUsed sharedRow entry interpolated rowFactor jointFactor solidShare openingShare wallShare heldStrength topLine constant groundFactor narrowFactor requiredStrength reached band floorType layoutFactor points countedMarks factorOf deteriorationFactor score
+unfolding scores joined scoreWith scoreBefore layout higherBand endBand endRequired required requiredOf narrow deterioration storeyFloorType held endHeld solidAtEnd inDirection rowsFrom wallRows first nth position foundationUsed sharedRow entry interpolated rowFactor jointFactor solidShare openingShare wallShare heldStrength topLine constant groundFactor narrowFactor requiredStrength reached band floorType layoutFactor points countedMarks factorOf deteriorationFactor score
 p1-scores = rw p1-walls
 
 p1-rows : reportRows p1 ≡
@@ -171,18 +172,18 @@ module _ (weight zone ground age marked : ℕ) (accepted : Judged (twoStoreys we
 
   -- A place's band of an end, higher band, score and score before the layout factor, by what is held there.
   abbrev bandBy : ℕ → ℕ → ℕ → ℕ → ℕ
-  bandBy storey direction end holding = band holding (endRequired house storey direction end)
+  bandBy storey direction end holding = band (record { held = holding; required = endRequired house storey direction end })
 
   abbrev higherBy : ℕ → ℕ → ℕ → ℕ → ℕ
   higherBy storey direction a b = max (bandBy storey direction endA a) (bandBy storey direction endB b)
 
   abbrev fullBy : ℕ → ℕ → ℕ → ℕ → ℕ → ℕ
   fullBy storey direction all a b =
-      score all (required house storey) (layoutFactor (bandBy storey direction endA a) (bandBy storey direction endB b) (storeyFloorType house storey))
-      (deterioration house)
+      score (strengthsWith house all storey)
+      (layoutFactor (record { a = bandBy storey direction endA a; b = bandBy storey direction endB b }) (storeyFloorType house storey)) (deterioration house)
 
   abbrev beforeBy : ℕ → ℕ → ℕ
-  beforeBy storey all = scoreBeforeLayout all (required house storey) (deterioration house)
+  beforeBy storey all = scoreBeforeLayout (strengthsWith house all storey) (deterioration house)
 
   by-walls :
       figures house
@@ -190,7 +191,7 @@ module _ (weight zone ground age marked : ℕ) (accepted : Judged (twoStoreys we
       ∷ (beforeBy 1 56_250_000 ∷ beforeBy 1 60_000_000 ∷ beforeBy 2 35_000_000 ∷ beforeBy 2 25_000_000 ∷ [])
       ∷ (higherBy 1 1 55_000_000 1_250_000 ∷ higherBy 1 2 0 0 ∷ higherBy 2 1 17_500_000 17_500_000 ∷ higherBy 2 2 0 0 ∷ [])
       ∷ []
-  unfolding scores joined fullScore scoreBefore layout higherBand endBand
+  unfolding scores joined scoreWith scoreBefore layout higherBand endBand
   by-walls = λ i.
       (fullBy 1 1 (holds .0 i) (ends-hold .0 i) (ends-hold .1 i)
       ∷ fullBy 1 2 (holds .1 i) (ends-hold .2 i) (ends-hold .3 i)
@@ -203,7 +204,7 @@ module _ (weight zone ground age marked : ℕ) (accepted : Judged (twoStoreys we
 
 -- From what they hold on all is computed.
 pub sound-figures : figures sound ≡ (131 ∷ 200 ∷ 262 ∷ 187 ∷ []) ∷ (188 ∷ 200 ∷ 262 ∷ 187 ∷ []) ∷ sameBands ∷ []
-unfolding endRequired required requiredOf deterioration storeyFloorType wallRows first nth topLine constant groundFactor narrowFactor requiredStrength reached band floorType layoutFactor points countedMarks factorOf deteriorationFactor score
+unfolding endRequired required requiredOf narrow deterioration storeyFloorType wallRows first nth topLine constant groundFactor narrowFactor requiredStrength reached band floorType layoutFactor points countedMarks factorOf deteriorationFactor score
 sound-figures = by-walls 1 90 1 1 2048 (two-judged .0)
 
 pub heavy-figures : figures heavy ≡ (103 ∷ 157 ∷ 183 ∷ 131 ∷ []) ∷ (147 ∷ 157 ∷ 183 ∷ 131 ∷ []) ∷ sameBands ∷ []

@@ -16,8 +16,9 @@ use Rattle.survey.specs.Judgement.{within, judging}
 use Rattle.survey.proofs.Examples.{zones-known}
 use Rattle.survey.proofs.Positions.{beyond}
 use Rattle.method.proofs.Tables.{everyBelow, at-every}
-use Rattle.diagnosis.specs.House.{marked, fullScore, houseVerdict}
-use Rattle.diagnosis.specs.Comparison.{mayDiffer, NoLower, Worse, InHouse, Kept, Applies}
+use Rattle.diagnosis.specs.Rows.{marked}
+use Rattle.diagnosis.specs.House.{InHouse, fullScore, houseVerdict}
+use Rattle.diagnosis.specs.Comparison.{mayDiffer, NoLower, Worse, Kept, Applies}
 use Rattle.diagnosis.specs.Worked.{p10, sound, heavy, zone100, softGround, overTen, moreMarks, allWorse, figures, sameBands}
 use Rattle.diagnosis.proofs.ScoreLists.{one-or-two}
 use Rattle.diagnosis.proofs.Comparing.{comparison}

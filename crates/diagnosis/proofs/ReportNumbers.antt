@@ -19,12 +19,13 @@ use Rattle.method.proofs.Tables.{AllAtMost, all-at, all-append}
 use Rattle.method.proofs.Bands.{layout-most}
 use Rattle.method.proofs.Fractions.{Bounded, deterioration-bounded}
 use Rattle.method.proofs.Comparisons.{verdict-most}
-use Rattle.diagnosis.specs.House.{age, present, marked, layout, deterioration, fullScore, scores, leastOf, leastScore, assessment}
+use Rattle.diagnosis.specs.Rows.{itemsOf, age}
+use Rattle.diagnosis.specs.House.{layout, deterioration, fullScore, scores, leastOf, leastScore, assessment}
 use Rattle.diagnosis.specs.Report.{hundredths, resultRow, storeyRows, resultRows, verdictRow, reportRows, reportLines, reportBytes}
 use Rattle.diagnosis.proofs.AcceptedTables.{storeys-few, required-within}
 use Rattle.diagnosis.proofs.Sums.{storey-held-most}
 use Rattle.diagnosis.proofs.ScoreLists.{score-small}
-use Rattle.diagnosis.proofs.Rows.{report-length}
+use Rattle.diagnosis.proofs.ReportRows.{report-length}
 
 -- No number of a list is too large for a field.
 abbrev Small : List ℕ → Type 0
@@ -47,11 +48,11 @@ hundredths-most f b = le-trans (div-le-self (100 * f .upper) (f .lower)) (omega 
 module _ (table : List ℕ) (h : judging table .number ≡ 0) where
   layout-small : (storey direction : ℕ) → layout table storey direction ≤ 99_999_999
   unfolding layout
-  layout-small storey direction = le-trans (layout-most _ _ _) (lit≤ tt)
+  layout-small storey direction = le-trans (layout-most _ _) (lit≤ tt)
 
   factor-small : hundredths (deterioration table) ≤ 99_999_999
   unfolding deterioration
-  factor-small = hundredths-most _ (deterioration-bounded (present table) (marked table) (age table))
+  factor-small = hundredths-most _ (deterioration-bounded (itemsOf table) (age table))
 
   result-small : (storey direction : ℕ) → 1 ≤ storey → storey ≤ storeys table → direction ≤ 2
       → Small (resultRow storey direction (assessment table storey direction) (deterioration table))

@@ -1,17 +1,17 @@
 -- The scores of a house as they are listed: storey by storey, in the record, and the least of them. Assumes nothing.
 use mathlib.Core.Path.{_≡_, refl, sym, ap, _∙_}
 use mathlib.Core.Bool.{Bool, true, false, cond}
-use mathlib.Core.List.{List, [], _∷_, _++_, append-assoc}
+use mathlib.Core.List.{List, [], _∷_, _++_}
 use Prim.Native.Nat.{ℕ, _+_, _*_, _<_, min, zero, suc, _-_, _/_, _%_, _≤_}
 use native.Mathlib.Numerals.{add-one}
 use native.Mathlib.Decide.{decLt}
 use native.Mathlib.Omega.{arith}
-use lib.ListN.{length, set, length-append, getD, drop, List·getD-append}
+use lib.ListN.{length, getD, drop, List·getD-append}
 use lib.Dec.{eqb}
 use borrow.Author.Tests.{eq-eqb}
 use Rattle.answer.specs.Told.{Told, accepts}
 use Rattle.answer.specs.Lists.{joined, over}
-use Rattle.answer.proofs.Lists.{over-set, joined-length, joined-part, part-at}
+use Rattle.answer.proofs.Lists.{joined-length, joined-part, part-at}
 use Rattle.survey.specs.Table.{storeys}
 use Rattle.survey.specs.Judgement.{judging}
 use Rattle.method.proofs.Comparisons.{score-most}
@@ -19,37 +19,21 @@ use Rattle.diagnosis.specs.declared.scores.Outcome.{Outcome}
 use Rattle.diagnosis.specs.declared.scores.Outcome.the-variants.{Scored, Refused}
 use Rattle.diagnosis.specs.declared.scores.Record.{Record}
 use Rattle.diagnosis.specs.declared.scores.Scoring.{Scoring}
-use Rattle.diagnosis.specs.House.{held, required, layout, deterioration, fullScore, storeyScores, scores, leastOf, leastScore}
+use Rattle.diagnosis.specs.House.{InHouse, held, layout, deterioration, strengthsWith, scoreWith, fullScore, storeyScores, scores, leastOf, leastScore}
 use Rattle.diagnosis.specs.Answers.{noScores, noRecord, ToldScoring, toldOutcome, toldScoring, recordOf, scoring}
-use Rattle.diagnosis.specs.Comparison.{InHouse, scoreAt}
+use Rattle.diagnosis.specs.Comparison.{scoreAt}
 use Rattle.diagnosis.proofs.AcceptedTables.{storeys-few}
 
--- The least of some scores, and of two more.
-pub least-more : (some : List ℕ) (x y : ℕ) → min (leastOf some) (min x y) ≡ leastOf (some ++ x ∷ y ∷ [])
+-- The least of some scores, and of one more.
+least-more : (some : List ℕ) (x : ℕ) → min (leastOf some) x ≡ leastOf (some ++ x ∷ [])
 unfolding leastOf
-least-more [] x y = omega arith
-least-more (one ∷ others) x y = omega (arith, least-more others x y)
+least-more [] x = omega arith
+least-more (one ∷ others) x = omega (arith, least-more others x)
 
--- The scores of so many storeys, from the ground up.
-abbrev pub scoresOf : List ℕ → ℕ → List ℕ
-scoresOf table count = joined count (λ below. storeyScores table (below + 1))
-
-module _ (table : List ℕ) (below : ℕ) {x y : ℕ} (x-is : x ≡ fullScore table (below + 1) 1) (y-is : y ≡ fullScore table (below + 1) 2) where
-  one-more : scoresOf table below ++ x ∷ y ∷ [] ≡ scoresOf table (below + 1)
-  unfolding joined
-  one-more = rw (x-is, y-is) (sym (ap (scoresOf table) (add-one below)))
-
-  pub scores-more : {written : List ℕ} → below < 3 → written ≡ over noScores (scoresOf table below)
-      → set (set written (2 * below) x) (2 * below + 1) y ≡ over noScores (scoresOf table (below + 1))
-  scores-more few e =
-      let some = scoresOf table below in
-      let long : length some ≡ 2 * below = joined-length 2 (λ below. storeyScores table (below + 1)) (λ i. refl) below in
-      let first = over-set noScores some x (2 * below) long (omega arith) in
-      let second = over-set noScores (some ++ x ∷ []) y (2 * below + 1) (rw length-append (omega (arith, long))) (omega arith) in
-      rw (e, first, second, append-assoc) (ap (over noScores) one-more)
-
-  pub least-score-more : {least : ℕ} → least ≡ leastOf (scoresOf table below) → min least (min x y) ≡ leastOf (scoresOf table (below + 1))
-  least-score-more e = rw e (least-more (scoresOf table below) x y ∙ ap leastOf one-more)
+pub score-more : (f : ℕ → ℕ) (at : ℕ) {least x : ℕ} → least ≡ leastOf (joined at (λ i. f i ∷ [])) → x ≡ f at
+    → min least x ≡ leastOf (joined (at + 1) (λ i. f i ∷ []))
+unfolding joined
+score-more f at so-far one = rw (so-far, one, add-one) (least-more (joined at (λ i. f i ∷ [])) (f at))
 
 -- Two scores a storey.
 pub scores-length : (table : List ℕ) → length (scores table) ≡ 2 * storeys table
@@ -153,9 +137,9 @@ score-at table i inside =
     rw place at (score-listed table (i / 2 + 1) (i % 2 + 1) (in-house-at table i inside))
 
 pub score-small : (table : List ℕ) (storey direction : ℕ) → fullScore table storey direction ≤ 999
-unfolding fullScore
+unfolding scoreWith
 score-small table storey direction =
-    score-most (held table storey direction) (required table storey) (layout table storey direction) (deterioration table)
+    score-most (strengthsWith table (held table storey direction) storey) (layout table storey direction) (deterioration table)
 
 pub least-score-one : (table : List ℕ) → judging table .number ≡ 0
     → (storey : ℕ) × (direction : ℕ) × InHouse table storey direction × (leastScore table ≡ fullScore table storey direction)

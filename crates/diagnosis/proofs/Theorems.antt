@@ -18,11 +18,12 @@ use Rattle.survey.specs.Table.{cell, storeys}
 use Rattle.survey.specs.Judgement.{judging, within}
 use Rattle.method.specs.Worked.{worked, expected}
 use Rattle.diagnosis.specs.declared.scores.Scoring.{Scoring}
-use Rattle.diagnosis.specs.House.{weight, zone, ground, age, marked, higherBand, scoreBefore, fullScore, leastScore, houseVerdict}
+use Rattle.diagnosis.specs.Rows.{weight, zone, ground, age, marked}
+use Rattle.diagnosis.specs.House.{InHouse, higherBand, scoreBefore, fullScore, leastScore, houseVerdict}
 use Rattle.diagnosis.specs.Answers.{toldScoring, recordOf, scoring}
 use Rattle.diagnosis.specs.Report.{reportRows, reportLines, reportBytes}
 use Rattle.diagnosis.specs.Program.{tableOf, diagnosing, afterDiagnosing, mostReportBytes, output}
-use Rattle.diagnosis.specs.Comparison.{mayDiffer, NoLower, Worse, InHouse, Kept, scoreAt, NoBetter, Applies}
+use Rattle.diagnosis.specs.Comparison.{mayDiffer, NoLower, Worse, Kept, scoreAt, NoBetter, Applies}
 use Rattle.diagnosis.specs.Worked.{p1Report, p10, sound, heavy, zone100, softGround, overTen, moreMarks, allWorse, figures, sameBands}
 use Rattle.diagnosis.proofs.ScoreLists as score-lists
 use Rattle.diagnosis.proofs.ReportNumbers as report-numbers

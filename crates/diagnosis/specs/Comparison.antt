@@ -7,19 +7,19 @@ use mathlib.Core.List.{List}
 use Prim.Native.Nat.{ℕ, _+_, _-_, _*_, _<_, _≤_}
 use lib.ListN.{length, getD}
 use lib.Dec.{eqb}
-use Rattle.survey.specs.Table.{cell, storeys, partsRow}
+use Rattle.survey.specs.Table.{cell, partsRow}
 use Rattle.survey.specs.Judgement.{judging, within}
 use Rattle.diagnosis.specs.declared.scores.Scoring.{Scoring}
-use Rattle.diagnosis.specs.House.{weight, zone, ground, age, marked, higherBand, scoreBefore, fullScore, houseVerdict}
+use Rattle.diagnosis.specs.Rows.{weightColumn, zoneColumn, groundColumn, ageColumn, markedColumn, weight, zone, ground, age, marked}
+use Rattle.diagnosis.specs.House.{InHouse, higherBand, scoreBefore, fullScore, houseVerdict}
 use Rattle.diagnosis.specs.Answers.{toldScoring, scoring}
 
--- The columns that may differ: 3, 4, 5 and 7 of the house row (weight class, zone, ground, age) and 3 of the parts row (the marked set); here
--- they count from 0.
+-- The columns that may differ: "columns 3, 4, 5 and 7 of the house row" (weight class, zone, ground, age), "and the marked set".
 abbrev pub houseMayDiffer : ℕ → Bool
-houseMayDiffer column = eqb column 2 || eqb column 3 || eqb column 4 || eqb column 6
+houseMayDiffer column = eqb column weightColumn || eqb column zoneColumn || eqb column groundColumn || eqb column ageColumn
 
 abbrev pub partsMayDiffer : ℕ → Bool
-partsMayDiffer column = eqb column 2
+partsMayDiffer column = eqb column markedColumn
 
 unfoldable pub mayDiffer : List ℕ → ℕ → ℕ → Bool
 mayDiffer table row column = eqb row 0 && houseMayDiffer column || eqb row (partsRow table) && partsMayDiffer column
@@ -43,13 +43,6 @@ pub record Worse (A B : List ℕ) : Type 0 where
   pub no-lower : NoLower A B
   -- In B every mark of A is marked.
   pub marks : within (marked A) (marked B) ≡ true
-
--- The house has this storey and direction.
-pub record InHouse (table : List ℕ) (storey direction : ℕ) : Type 0 where
-  pub some-storey : 1 ≤ storey
-  pub last-storey : storey ≤ storeys table
-  pub some-direction : 1 ≤ direction
-  pub last-direction : direction ≤ 2
 
 -- "it stays in its band when the higher band is the same in both houses compared".
 abbrev pub Kept : List ℕ → List ℕ → ℕ → ℕ → Type 0

@@ -14,7 +14,7 @@ ghost use Rattle.answer.specs.Told.{told};
 ghost use Rattle.diagnosis.specs.Program.{mostNumbers, diagnosing, afterDiagnosing, mostReportBytes, output, outputBytes};
 
 // What the scoring program prints for a sheet.
-pub struct Output {
+pub struct ProgramOutput {
     // The count of the report's bytes, or the refusal.
     pub answer: Answer,
     // What is printed stands at the front, and the bytes after it are 0.
@@ -50,7 +50,7 @@ pub fn diagnose(sheet: &[u8], report: &mut [u8]) -> Answer
 }
 
 // What the scoring program prints for any sheet: its report, or the line of its refusal alone.
-pub fn output_of(sheet: &[u8]) -> Output
+pub fn output_of(sheet: &[u8]) -> ProgramOutput
     ensures answer { λ r. ⌜ told (r .answer) ≡ diagnosing (now (sheet .entry)) mostReportBytes ⌝ }
     ensures bytes { λ r. ⌜ r .bytes ≡ outputBytes (now (sheet .entry)) ⌝ }
     ensures length { λ r. ⌜ r .length ≡ length (output (now (sheet .entry))) ⌝ }
@@ -58,7 +58,7 @@ pub fn output_of(sheet: &[u8]) -> Output
     let mut bytes = [0u8; MOST_REPORT_BYTES];
     let answer = diagnose(sheet, &mut bytes);
     match answer {
-        Answer::Count(count) => Output {
+        Answer::Count(count) => ProgramOutput {
             answer,
             bytes,
             length: count as usize,
@@ -69,7 +69,7 @@ pub fn output_of(sheet: &[u8]) -> Output
             column,
         } => {
             print_rows(&refusal_row(number, row, column), &mut bytes);
-            Output {
+            ProgramOutput {
                 answer,
                 bytes,
                 length: LINE,

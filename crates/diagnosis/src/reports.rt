@@ -1,9 +1,7 @@
 // A table's report, in the sheet's own columns, and the line of a refusal.
 use crate::assessment::Assessment;
-use crate::assessment::Directions;
-use crate::assessment::assess_storey;
-use crate::assessment::deterioration;
-use crate::scores::lesser;
+use crate::assessment::HouseAssessment;
+use crate::assessment::assess_house;
 use answer::Answer;
 use answer::LENT_SPACE_SHORT;
 use answer::ROW;
@@ -11,21 +9,16 @@ use method::Fraction;
 use method::verdict;
 use sheet::LINE;
 use sheet::print_rows;
-use survey::cell;
-use survey::columns::STOREYS;
 use survey::judge;
 ghost use mathlib.Core.Path.{_≡_};
-ghost use mathlib.Core.List.{_++_};
 ghost use Prim.Native.Nat.{_≤_, _<_, _*_};
 ghost use lib.ListN.{length};
 ghost use Rattle.answer.specs.Told.{told};
-ghost use Rattle.answer.specs.Lists.{over};
+ghost use Rattle.answer.specs.Lists.{joined, over};
 ghost use Rattle.method.specs.Held.{mostHeld};
 ghost use Rattle.method.specs.Required.{mostRequired};
-ghost use Rattle.survey.specs.Table.{storeys};
-ghost use Rattle.survey.specs.Judgement.{judging};
-ghost use Rattle.diagnosis.specs.House.{leastScore};
-ghost use Rattle.diagnosis.specs.Report.{resultRow, resultRows, verdictRow, reportLines, reportBytes, reporting, afterReporting, refusalRow};
+ghost use Rattle.diagnosis.specs.Report.{resultRow, verdictRow, reporting, afterReporting, refusalRow};
+ghost use Rattle.diagnosis.specs.Internal.{rowBy, linesBy, bytesBy, Printable, reportingBy, afterReportingBy};
 
 // 0.01 kN in the units of held and of required strength.
 const HELD_UNIT: u64 = 10_000;
@@ -76,67 +69,46 @@ fn put_row(row: [u32; 8], to: &mut [u32])
     }
 }
 
-// Writes a storey's two rows.
-fn fill_storey(storey: u32, found: Directions, factor: Fraction, rows: &mut [u32])
-    requires x { ⌜ (found .x .held ≤ mostHeld) × (found .x .required ≤ mostRequired) × (0 < factor .lower) ⌝ }
-    requires y { ⌜ (found .y .held ≤ mostHeld) × (found .y .required ≤ mostRequired) × (0 < factor .lower) ⌝ }
-    requires rows { ⌜ length (now rows) ≡ 16 ⌝ }
-    ensures { λ _. ⌜ now (rows .exit) ≡ resultRow storey 1 (found .x) factor ++ resultRow storey 2 (found .y) factor ⌝ }
+// Writes the row of every storey and direction.
+fn fill_results(found: HouseAssessment, rows: &mut [u32])
+    requires found { ⌜ Printable found ⌝ }
+    requires rows { ⌜ 8 * found .count ≤ length (now rows) ⌝ }
+    ensures { λ _. ⌜ now (rows .exit) ≡ over (now (rows .entry)) (joined (found .count) (rowBy found)) ⌝ }
 {
-    let x = found.x;
-    let y = found.y;
-    put_row(result_row(storey, 1, x, factor), &mut rows[0..ROW]);
-    put_row(result_row(storey, 2, y, factor), &mut rows[ROW..2 * ROW]);
-}
-
-// Writes the rows of every storey and direction, and answers the least score.
-fn fill_results(table: &[u32], rows: &mut [u32]) -> u32
-    requires accepted { ⌜ judging (now table) .number ≡ 0 ⌝ }
-    requires rows { ⌜ 16 * storeys (now table) ≤ length (now rows) ⌝ }
-    ensures least { λ r. ⌜ r ≡ leastScore (now (table .entry)) ⌝ }
-    ensures rows { λ _. ⌜ now (rows .exit) ≡ over (now (rows .entry)) (resultRows (now (table .entry))) ⌝ }
-{
-    let factor = deterioration(table);
-    let storeys = cell(table, 0, STOREYS) as usize;
-    let mut least = 999;
-    let mut below = 0;
-    while below < storeys {
-        let found = assess_storey(table, factor, below + 1);
-        let from = 2 * ROW * below;
-        fill_storey(
-            below as u32 + 1,
-            found,
-            factor,
-            &mut rows[from..from + 2 * ROW],
-        );
-        least = lesser(least, lesser(found.x.score, found.y.score));
-        below += 1;
+    let factor = found.factor;
+    let count = found.count as usize;
+    let mut at = 0;
+    while at < count {
+        let number = at as u32;
+        let one = found.places[at];
+        let row = result_row(number / 2 + 1, number % 2 + 1, one, factor);
+        let from = ROW * at;
+        put_row(row, &mut rows[from..from + ROW]);
+        at += 1;
     }
-    least
 }
 
-// Prints an accepted table's report where there is room for it, by way of its rows.
-fn print_report(table: &[u32], rows: &mut [u32], report: &mut [u8])
-    requires accepted { ⌜ judging (now table) .number ≡ 0 ⌝ }
+// Prints the report of what is worked out for a house where there is room for it, by way of its rows.
+fn print_report(found: HouseAssessment, rows: &mut [u32], report: &mut [u8])
+    requires found { ⌜ Printable found ⌝ }
     requires rows { ⌜ length (now rows) ≡ 56 ⌝ }
-    requires report { ⌜ 65 * reportLines (now table) ≤ length (now report) ⌝ }
-    ensures { λ _. ⌜ now (report .exit) ≡ over (now (report .entry)) (reportBytes (now (table .entry))) ⌝ }
+    requires report { ⌜ 65 * linesBy found ≤ length (now report) ⌝ }
+    ensures { λ _. ⌜ now (report .exit) ≡ over (now (report .entry)) (bytesBy found) ⌝ }
 {
-    let least = fill_results(table, rows);
-    let results = 2 * ROW * cell(table, 0, STOREYS) as usize;
+    fill_results(found, rows);
+    let results = ROW * found.count as usize;
     let numbers = results + ROW;
-    put_row(verdict_row(least), &mut rows[results..numbers]);
+    put_row(verdict_row(found.least), &mut rows[results..numbers]);
     print_rows(&rows[0..numbers], report);
 }
 
-// Writes an accepted table's report into lent bytes, where they have room for it.
-fn report_accepted(table: &[u32], report: &mut [u8]) -> Answer
-    requires { ⌜ judging (now table) .number ≡ 0 ⌝ }
-    ensures answer { λ r. ⌜ told r ≡ reporting (now (table .entry)) (length (now (report .entry))) ⌝ }
-    ensures report { λ _. ⌜ now (report .exit) ≡ afterReporting (now (table .entry)) (now (report .entry)) ⌝ }
+// Writes the report of what is worked out for a house into lent bytes, where they have room for it.
+fn report_of(found: HouseAssessment, report: &mut [u8]) -> Answer
+    requires { ⌜ Printable found ⌝ }
+    ensures answer { λ r. ⌜ told r ≡ reportingBy found (length (now (report .entry))) ⌝ }
+    ensures report { λ _. ⌜ now (report .exit) ≡ afterReportingBy found (now (report .entry)) ⌝ }
 {
-    let lines = 2 * cell(table, 0, STOREYS) as usize + 1;
-    let length = LINE * lines;
+    let length = LINE * (found.count as usize + 1);
     if report.len() < length {
         return Answer::Refused {
             number: LENT_SPACE_SHORT,
@@ -145,7 +117,7 @@ fn report_accepted(table: &[u32], report: &mut [u8]) -> Answer
         };
     }
     let mut rows = [0u32; ROW * MOST_LINES];
-    print_report(table, &mut rows, report);
+    print_report(found, &mut rows, report);
     Answer::Count(length as u32)
 }
 
@@ -158,7 +130,7 @@ pub fn report(table: &[u32], report: &mut [u8]) -> Answer
     let judged = judge(table);
     match judged {
         Answer::Refused { .. } => judged,
-        Answer::Count(_) => report_accepted(table, report),
+        Answer::Count(_) => report_of(assess_house(table), report),
     }
 }
 

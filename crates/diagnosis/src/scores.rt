@@ -1,15 +1,12 @@
 // A table scored: its record, or the refusal.
-use crate::assessment::assess_storey;
-use crate::assessment::deterioration;
+use crate::assessment::HouseAssessment;
+use crate::assessment::assess_house;
 use answer::Answer;
 use method::verdict;
-use survey::cell;
-use survey::columns::STOREYS;
 use survey::judge;
 ghost use mathlib.Core.Path.{_≡_};
-ghost use Prim.Native.Nat.{min};
-ghost use Rattle.survey.specs.Judgement.{judging};
-ghost use Rattle.diagnosis.specs.Answers.{toldScoring, recordOf, scoring};
+ghost use Rattle.diagnosis.specs.Answers.{toldScoring, scoring};
+ghost use Rattle.diagnosis.specs.Internal.{recordBy};
 
 // Document 01: "a record of up to six scores with the verdict".
 pub struct Record {
@@ -35,39 +32,22 @@ pub struct Scoring {
     pub result: Record,
 }
 
-// The lesser of two scores.
-pub(crate) fn lesser(one: u32, other: u32) -> u32
-    ensures { λ r. ⌜ r ≡ min one other ⌝ }
+// The record of what is worked out for a house.
+fn record_of(found: HouseAssessment) -> Record
+    ensures { λ r. ⌜ r ≡ recordBy found ⌝ }
 {
-    if one < other {
-        return one;
-    }
-    other
-}
-
-// The record of a table that is accepted.
-fn record_of(table: &[u32]) -> Record
-    requires { ⌜ judging (now table) .number ≡ 0 ⌝ }
-    ensures { λ r. ⌜ r ≡ recordOf (now (table .entry)) ⌝ }
-{
-    let storeys = cell(table, 0, STOREYS) as usize;
-    let factor = deterioration(table);
-    let mut scores = [0u32; 6];
-    let mut least = 999;
-    let mut below = 0;
-    while below < storeys {
-        let found = assess_storey(table, factor, below + 1);
-        let x = found.x.score;
-        let y = found.y.score;
-        scores[2 * below] = x;
-        scores[2 * below + 1] = y;
-        least = lesser(least, lesser(x, y));
-        below += 1;
-    }
+    let places = found.places;
     Record {
-        scores,
-        count: 2 * storeys as u32,
-        verdict: verdict(least),
+        scores: [
+            places[0].score,
+            places[1].score,
+            places[2].score,
+            places[3].score,
+            places[4].score,
+            places[5].score,
+        ],
+        count: found.count,
+        verdict: verdict(found.least),
     }
 }
 
@@ -93,7 +73,7 @@ pub fn score(table: &[u32]) -> Scoring
             },
         },
         Answer::Count(_) => {
-            let result = record_of(table);
+            let result = record_of(assess_house(table));
             Scoring {
                 outcome: Outcome::Scored,
                 result,
