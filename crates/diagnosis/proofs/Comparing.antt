@@ -18,7 +18,7 @@ use Rattle.survey.proofs.AlikeTables.{parts-row-alike, walls-alike}
 use Rattle.method.specs.declared.rows.HousePart.{HousePart}
 use Rattle.method.specs.Held.{position, foundationUsed, jointFactor, solidShare, wallShare}
 use Rattle.method.specs.Required.{narrowFactor}
-use Rattle.method.specs.LayoutFactor.{NoStronger}
+use Rattle.method.specs.LayoutFactor.{NoStronger, floorType}
 use Rattle.method.specs.Deterioration.{_at-most_}
 use Rattle.method.proofs.Requirements.{narrow-least, required-rises, required-positive}
 use Rattle.method.proofs.Fractions.{deterioration-falls}
@@ -26,12 +26,12 @@ use Rattle.method.proofs.Comparisons.{score-before-falls, full-score-falls, ver
 use Rattle.diagnosis.specs.Rows.{houseOf, foundation, storeyOf, storeyPart, endA, endB, endPart, present, marked, itemsOf}
 use Rattle.diagnosis.specs.House.{InHouse, share, held, endHeld, narrow, requiredOf, required, endRequired, endStrengths, endBand, higherBand, storeyFloorType, layout, deterioration, strengthsWith, scoreBefore, scoreWith, fullScore, scores, leastScore, houseVerdict}
 use Rattle.diagnosis.specs.Answers.{recordOf}
-use Rattle.diagnosis.specs.Comparison.{houseMayDiffer, partsMayDiffer, mayDiffer, Worse, Kept, NoBetter}
+use Rattle.diagnosis.specs.Comparison.{houseMayDiffer, partsMayDiffer, mayDiffer, SameOrWorse, BandKept, NoBetter}
 use Rattle.diagnosis.proofs.ScoreLists.{scores-length, score-at, record-score, record-told, least-falls, in-house-at}
 use Rattle.diagnosis.proofs.AcceptedTables.{storeys-few}
 use Rattle.diagnosis.proofs.Assessments.{lower-some}
 
-module _ (A B : List ℕ) (w : Worse A B) where
+module _ (A B : List ℕ) (w : SameOrWorse A B) where
   a : Accepted A
   a = accepted A (w .A-accepted)
 
@@ -103,7 +103,7 @@ module _ (A B : List ℕ) (w : Worse A B) where
     storey-same column inside = row-same storey column (λ e. omega arith) (λ e. omega arith) inside
 
     floor-same : storeyFloorType A storey ≡ storeyFloorType B storey
-    unfolding storeyFloorType
+    unfolding storeyFloorType floorType
     floor-same = rw (storey-same 4 (omega arith), storey-same 5 (omega arith))
 
     narrow-same : narrow A storey ≡ narrow B storey
@@ -114,9 +114,10 @@ module _ (A B : List ℕ) (w : Worse A B) where
     required-of-rises : (a-part b-part : HousePart) → a-part .storey ≡ storey → a-part ≡ b-part → requiredOf A a-part ≤ requiredOf B b-part
     unfolding requiredOf
     required-of-rises a-part b-part here same =
-        rw (← same, here)
+        let narrow-here : narrow A (a-part .storey) ≡ narrow B (a-part .storey) = rw here narrow-same in
+        rw (← same)
         (required-rises (houseOf A) a-part (houseOf B) a-part (omega (arith, w .no-lower .heavier)) (b .house-inside 2 (omega arith) .1)
-        (omega (arith, w .no-lower .higher)) (omega (arith, w .no-lower .softer)) refl refl (le-refl (a-part .area)) (le-of-eq narrow-same))
+        (omega (arith, w .no-lower .higher)) (omega (arith, w .no-lower .softer)) refl refl (le-refl (a-part .area)) (le-of-eq narrow-here))
 
     storey-required : required A storey ≤ required B storey
     unfolding required
@@ -153,7 +154,7 @@ module _ (A B : List ℕ) (w : Worse A B) where
     before-falls = score-before-falls (deterioration A) (deterioration B) storey-weaker worn required-some (lower-some A)
 
     -- Nor is the full score, where the higher band is kept.
-    full-falls : Kept A B storey direction → fullScore B storey direction ≤ fullScore A storey direction
+    full-falls : BandKept A B storey direction → fullScore B storey direction ≤ fullScore A storey direction
     unfolding scoreWith layout endBand higherBand
     full-falls kept =
         rw (← floor-same)
@@ -169,7 +170,7 @@ module _ (A B : List ℕ) (w : Worse A B) where
   }
 
   -- Where all keep it, the least score is no higher, and the verdict no better.
-  module _ (kept : (storey direction : ℕ) → InHouse A storey direction → Kept A B storey direction) where
+  module _ (kept : (storey direction : ℕ) → InHouse A storey direction → BandKept A B storey direction) where
     listed-falls : (i : ℕ) → i < 2 * storeys A → getD (scores B) i 0 ≤ getD (scores A) i 0
     listed-falls i inside =
         let s = in-house-at A i inside in
@@ -198,5 +199,5 @@ module _ (A B : List ℕ) (w : Worse A B) where
   }
 
 -- Demand 3: a house made worse is no better.
-pub comparison : (A B : List ℕ) → Worse A B → NoBetter A B
+pub comparison : (A B : List ℕ) → SameOrWorse A B → NoBetter A B
 comparison = no-better

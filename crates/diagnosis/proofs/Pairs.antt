@@ -18,7 +18,7 @@ use Rattle.survey.proofs.Positions.{beyond}
 use Rattle.method.proofs.Tables.{everyBelow, at-every}
 use Rattle.diagnosis.specs.Rows.{marked}
 use Rattle.diagnosis.specs.House.{InHouse, fullScore, houseVerdict}
-use Rattle.diagnosis.specs.Comparison.{mayDiffer, NoLower, Worse, Kept, Applies}
+use Rattle.diagnosis.specs.Comparison.{mayDiffer, NoLower, SameOrWorse, BandKept, Applies}
 use Rattle.diagnosis.specs.Worked.{p10, sound, heavy, zone100, softGround, overTen, moreMarks, allWorse, figures, sameBands}
 use Rattle.diagnosis.proofs.ScoreLists.{one-or-two}
 use Rattle.diagnosis.proofs.Comparing.{comparison}
@@ -43,7 +43,7 @@ module _
         go (no after) = rw (beyond A row column (omega arith), beyond B row column (omega arith))
 
     -- One is the other made worse, where none of its numbers that differ is lower and it has every mark of the other.
-    made-worse : NoLower A B → within (marked A) (marked B) ≡ true → Worse A B
+    made-worse : NoLower A B → within (marked A) (marked B) ≡ true → SameOrWorse A B
     made-worse no-lower marks = record {
       A-accepted = ap (λ (t : Told). t .number) A-judged;
       B-accepted = ap (λ (t : Told). t .number) B-judged;
@@ -55,7 +55,7 @@ module _
 
 -- Demand 3's pair without the premise on bands: made worse, a house scores more, 14 where it was 11, since its better end falls from B to A
 -- (`p10-rises`).
-pub p10-worse : Worse (p10 90) (p10 100)
+pub p10-worse : SameOrWorse (p10 90) (p10 100)
 unfolding alike everyBelow mayDiffer wallRows first within
 p10-worse =
     made-worse (p10 90) (p10 100) 10 (p10-judged 90 (zones-known .2)) (p10-judged 100 (zones-known .3)) refl refl refl
@@ -65,7 +65,7 @@ p10-scores : (fullScore (p10 90) 1 1 ≡ 11) × (fullScore (p10 100) 1 1 ≡ 14)
 p10-scores = (ap (λ (l : List ℕ). getD l 1 0) (p10-rises .0), ap (λ (l : List ℕ). getD l 1 0) (p10-rises .1))
 
 -- So without that premise the comparison is false.
-pub bands-needed : ((A B : List ℕ) → Worse A B → (storey direction : ℕ) → InHouse A storey direction → fullScore B storey direction ≤ fullScore A storey direction)
+pub bands-needed : ((A B : List ℕ) → SameOrWorse A B → (storey direction : ℕ) → InHouse A storey direction → fullScore B storey direction ≤ fullScore A storey direction)
     → ⊥
 bands-needed claim =
     let stands : InHouse (p10 90) 1 1 = record { some-storey = omega arith; last-storey = omega arith; some-direction = omega arith; last-direction = omega arith } in
@@ -84,9 +84,9 @@ module _
       worse = made-worse sound B 14 (two-judged .0) accepted refl long passed no-lower marks;
       kept = λ storey direction s.
           one-or-two
-          (λ storey. Kept sound B storey direction)
-          (one-or-two (Kept sound B 1) (band-same 0) (band-same 1) direction (s .some-direction) (s .last-direction))
-          (one-or-two (Kept sound B 2) (band-same 2) (band-same 3) direction (s .some-direction) (s .last-direction)) storey (s .some-storey)
+          (λ storey. BandKept sound B storey direction)
+          (one-or-two (BandKept sound B 1) (band-same 0) (band-same 1) direction (s .some-direction) (s .last-direction))
+          (one-or-two (BandKept sound B 2) (band-same 2) (band-same 3) direction (s .some-direction) (s .last-direction)) storey (s .some-storey)
           (s .last-storey);
     }
 

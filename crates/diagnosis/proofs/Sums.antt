@@ -87,8 +87,8 @@ module _ (house : House) (storey : ℕ) (walls : List ℕ) where
     pub sum-most : (takes : ℕ → Bool) (n : ℕ) → n ≤ length walls / 8 → sum takes n ≤ mostHeld
     sum-most takes n few =
         let each : sum takes n ≤ n * mostShare = held-most takes counts n (λ k l. share-small k (omega arith)) in
-        let all : n * mostShare ≤ mostWalls * mostShare = mul-le-mul-right mostShare (omega (arith, fit .few)) in
-        le-trans each (le-trans all (lit≤ tt))
+        let within : n ≤ mostWalls = omega (arith, fit .few) in
+        le-trans each (le-trans (mul-le-mul-right mostShare within) (lit≤ tt))
 
     -- What adding a wall asks for.
     pub wall-ready : (direction row : ℕ) {sums : HeldSums} {counted : ℕ} → row < length walls / 8 → sums ≡ sumsOver house storey walls direction row

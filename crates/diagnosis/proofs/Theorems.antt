@@ -23,7 +23,7 @@ use Rattle.diagnosis.specs.House.{InHouse, higherBand, scoreBefore, full
 use Rattle.diagnosis.specs.Answers.{toldScoring, recordOf, scoring}
 use Rattle.diagnosis.specs.Report.{reportRows, reportLines, reportBytes}
 use Rattle.diagnosis.specs.Program.{tableOf, diagnosing, afterDiagnosing, mostReportBytes, output}
-use Rattle.diagnosis.specs.Comparison.{mayDiffer, NoLower, Worse, Kept, scoreAt, NoBetter, Applies}
+use Rattle.diagnosis.specs.Comparison.{mayDiffer, NoLower, SameOrWorse, BandKept, scoreAt, NoBetter, Applies}
 use Rattle.diagnosis.specs.Worked.{p1Report, p10, sound, heavy, zone100, softGround, overTen, moreMarks, allWorse, figures, sameBands}
 use Rattle.diagnosis.proofs.ScoreLists as score-lists
 use Rattle.diagnosis.proofs.ReportNumbers as report-numbers
@@ -54,7 +54,7 @@ scored-by-number = score-lists.scored-by-number
 -- Demand 3
 
 -- A house made worse is no better: one claim over all pairs.
-pub comparison : (A B : List ℕ) → Worse A B → NoBetter A B
+pub comparison : (A B : List ℕ) → SameOrWorse A B → NoBetter A B
 comparison = comparing.comparison
 
 -- The same with nothing left to a record: the premises are document 01's one by one, and the conclusions those of demand 3.
@@ -73,7 +73,7 @@ pub comparison-in-full : (A B : List ℕ)
     × ((a b : Scoring) → toldScoring a ≡ scoring A → toldScoring b ≡ scoring B → a .result .verdict ≤ b .result .verdict))
 comparison-in-full A B A-accepted B-accepted rows same heavier higher softer older marks =
     let no-lower : NoLower A B = record { heavier = heavier; higher = higher; softer = softer; older = older } in
-    let worse : Worse A B = record { A-accepted = A-accepted; B-accepted = B-accepted; rows = rows; same = same; no-lower = no-lower; marks = marks } in
+    let worse : SameOrWorse A B = record { A-accepted = A-accepted; B-accepted = B-accepted; rows = rows; same = same; no-lower = no-lower; marks = marks } in
     let no-better = comparison A B worse in (
       (λ storey direction some last one two.
           let s : InHouse A storey direction = record { some-storey = some; last-storey = last; some-direction = one; last-direction = two } in (
@@ -82,7 +82,7 @@ comparison-in-full A B A-accepted B-accepted rows same heavier higher softer old
             λ a b ea eb kept. no-better .record-full a b ea eb storey direction s kept,
           )),
       (λ kept.
-          let all : (storey direction : ℕ) → InHouse A storey direction → Kept A B storey direction =
+          let all : (storey direction : ℕ) → InHouse A storey direction → BandKept A B storey direction =
           λ storey direction s. kept storey direction (s .some-storey) (s .last-storey) (s .some-direction) (s .last-direction) in
           (no-better .verdict all, λ a b ea eb. no-better .record-verdict a b ea eb all)),
     )
@@ -122,10 +122,10 @@ pub worsened-verdict : houseVerdict sound ≤ houseVerdict allWorse
 worsened-verdict = pairs.worsened-verdict
 
 -- Without the premise on bands it is false: P10's house in zone 100 is the one in zone 90 made worse, and its score rises from 11 to 14.
-pub p10-worse : Worse (p10 90) (p10 100)
+pub p10-worse : SameOrWorse (p10 90) (p10 100)
 p10-worse = pairs.p10-worse
 
-pub bands-needed : ((A B : List ℕ) → Worse A B → (storey direction : ℕ) → InHouse A storey direction → fullScore B storey direction ≤ fullScore A storey direction)
+pub bands-needed : ((A B : List ℕ) → SameOrWorse A B → (storey direction : ℕ) → InHouse A storey direction → fullScore B storey direction ≤ fullScore A storey direction)
     → ⊥
 bands-needed = pairs.bands-needed
 

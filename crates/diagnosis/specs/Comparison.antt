@@ -32,7 +32,7 @@ pub record NoLower (A B : List ℕ) : Type 0 where
   pub older : age A ≤ age B
 
 -- B is A, or A made worse.
-pub record Worse (A B : List ℕ) : Type 0 where
+pub record SameOrWorse (A B : List ℕ) : Type 0 where
   -- Scoring refuses neither.
   pub A-accepted : judging A .number ≡ 0
   pub B-accepted : judging B .number ≡ 0
@@ -45,8 +45,8 @@ pub record Worse (A B : List ℕ) : Type 0 where
   pub marks : within (marked A) (marked B) ≡ true
 
 -- "it stays in its band when the higher band is the same in both houses compared".
-abbrev pub Kept : List ℕ → List ℕ → ℕ → ℕ → Type 0
-Kept A B storey direction = higherBand B storey direction ≡ higherBand A storey direction
+abbrev pub BandKept : List ℕ → List ℕ → ℕ → ℕ → Type 0
+BandKept A B storey direction = higherBand B storey direction ≡ higherBand A storey direction
 
 -- Where a record has the score of a storey and direction.
 abbrev pub scoreAt : ℕ → ℕ → ℕ
@@ -57,19 +57,19 @@ scoreAt storey direction = 2 * (storey - 1) + (direction - 1)
 -- better".
 pub record NoBetter (A B : List ℕ) : Type 0 where
   pub before : (storey direction : ℕ) → InHouse A storey direction → scoreBefore B storey direction ≤ scoreBefore A storey direction
-  pub full : (storey direction : ℕ) → InHouse A storey direction → Kept A B storey direction → fullScore B storey direction ≤ fullScore A storey direction
+  pub full : (storey direction : ℕ) → InHouse A storey direction → BandKept A B storey direction → fullScore B storey direction ≤ fullScore A storey direction
   -- "A verdict is no better when its number isn't lower."
-  pub verdict : ((storey direction : ℕ) → InHouse A storey direction → Kept A B storey direction) → houseVerdict A ≤ houseVerdict B
+  pub verdict : ((storey direction : ℕ) → InHouse A storey direction → BandKept A B storey direction) → houseVerdict A ≤ houseVerdict B
   -- "the full scores and the verdict are also those in the record of any scoring of the table that isn't refused": of any answers that
   -- meet the promise of `score`.
   pub record-full : (a b : Scoring) → toldScoring a ≡ scoring A → toldScoring b ≡ scoring B
-      → (storey direction : ℕ) → InHouse A storey direction → Kept A B storey direction
+      → (storey direction : ℕ) → InHouse A storey direction → BandKept A B storey direction
       → getD (b .result .scores) (scoreAt storey direction) 0 ≤ getD (a .result .scores) (scoreAt storey direction) 0
   pub record-verdict : (a b : Scoring) → toldScoring a ≡ scoring A → toldScoring b ≡ scoring B
-      → ((storey direction : ℕ) → InHouse A storey direction → Kept A B storey direction)
+      → ((storey direction : ℕ) → InHouse A storey direction → BandKept A B storey direction)
       → a .result .verdict ≤ b .result .verdict
 
 -- A pair to which all of demand 3 applies: B is A made worse, and every better end stays in its band.
 pub record Applies (A B : List ℕ) : Type 0 where
-  pub worse : Worse A B
-  pub kept : (storey direction : ℕ) → InHouse A storey direction → Kept A B storey direction
+  pub worse : SameOrWorse A B
+  pub kept : (storey direction : ℕ) → InHouse A storey direction → BandKept A B storey direction

@@ -122,11 +122,7 @@ fn lesser(one: u32, other: u32) -> u32
 }
 
 // An accepted table's house, by what each storey holds in each direction.
-pub(crate) fn assess_house_with(
-    table: &[u32],
-    house: House,
-    sums: [HeldSums; 6],
-) -> HouseAssessment
+pub(crate) fn assess_house_with(table: &[u32], house: House, sums: [HeldSums; 6]) -> HouseAssessment
     requires house { ⌜ HouseOf (now table) house ⌝ }
     requires sums { ⌜ AllFit (now table) sums ⌝ }
     ensures { λ r. ⌜ r ≡ houseAssessmentWith (now (table .entry)) (allHeld sums) ⌝ }

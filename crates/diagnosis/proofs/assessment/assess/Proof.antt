@@ -1,31 +1,44 @@
 -- `diagnosis::assessment::assess` meets its contract. Assumes nothing.
-use mathlib.Core.Path.{_≡_, ap}
+use mathlib.Core.Path.{_≡_, _∙_}
 use native.Mathlib.Omega.{arith}
 use denote.Ref.{now}
-use borrow.Author.Needs.{needs}
-use Rattle.diagnosis.specs.declared.strengths.Held.{Held}
-use Rattle.diagnosis.specs.House.{layout}
+use Rattle.diagnosis.specs.House.{narrow, requiredOf, required, storeyFloorType, layout}
 use Rattle.diagnosis.proofs.Assessments.{score-is}
+use borrow.Author.Needs.{needs}
 use Rattle.diagnosis.proofs.assessment.assess.Statement.{statement}
 use Rattle.diagnosis.proofs.assessment.assess.Tie as tie
 
-storey-required-requires : tie.Need-storey-required-requires
-storey-required-requires c κs = search needs
+storey-of-requires : tie.Need-storey-of-requires
+storey-of-requires c κs = search needs
+
+narrow-factor-requires : tie.Need-narrow-factor-requires
+narrow-factor-requires c κs = search needs
+
+storey-part-requires : tie.Need-storey-part-requires
+storey-part-requires c κs = search needs
+
+required-strength-requires : tie.Need-required-strength-requires
+required-strength-requires c κs = search needs
+
+-- The narrow factor, by the storey's row.
+narrow-is : (c : tie.After-narrow-factor) → c .narrow-factor .result ≡ narrow (now (c .before .before .before .args .table)) (c .before .before .before .args .storey)
+unfolding narrow
+narrow-is c = c .narrow-factor .ensures ∙ rw (c .before .storey-of .ensures, c .before .before .before .pre .0 .row)
 
 end-band-requires : tie.Need-end-band-requires
 end-band-requires c κs =
-    let start = c .before .before in
-    let stands = start .pre .1 .1 .1 in
-    (start .pre .0, (stands .0, ((stands .1 .0, stands .1 .1, omega arith), ap (λ (h : Held). h .a) (start .pre .1 .0))))
+    let at-narrow = c .before .before in
+    let start = at-narrow .before .before .before in
+    (start .pre .0, (start .pre .1 .0, (omega arith, (narrow-is at-narrow, start .pre .1 .1 .0 .at-a))))
 
 end-band-requires-2 : tie.Need-end-band-requires-2
 end-band-requires-2 c κs =
-    let start = c .before .before .before in
-    let stands = start .pre .1 .1 .1 in
-    (start .pre .0, (stands .0, ((stands .1 .0, stands .1 .1, omega arith), ap (λ (h : Held). h .b) (start .pre .1 .0))))
+    let at-narrow = c .before .before .before in
+    let start = at-narrow .before .before .before in
+    (start .pre .0, (start .pre .1 .0, (omega arith, (narrow-is at-narrow, start .pre .1 .1 .0 .at-b))))
 
-storey-floor-type-requires : tie.Need-storey-floor-type-requires
-storey-floor-type-requires c κs = search needs
+floor-type-requires : tie.Need-floor-type-requires
+floor-type-requires c κs = search needs
 
 layout-factor-requires : tie.Need-layout-factor-requires
 layout-factor-requires c κs = search needs
@@ -33,34 +46,48 @@ layout-factor-requires c κs = search needs
 score-requires : tie.Need-score-requires
 score-requires c κs = search needs
 
-laid-out : (c : tie.After-layout-factor) → c .layout-factor .result ≡ layout (now (c .before .before .before .before .before .before .args .table)) (c .before .before .before .before .before .before .args .storey) (c .before .before .before .before .before .before .args .direction)
-unfolding layout
-laid-out c =
-    let at-other = c .before .before in
-    rw (← at-other .before .end-band .ensures, ← at-other .end-band2 .ensures, ← c .before .storey-floor-type .ensures) (c .layout-factor .ensures)
+-- What is required of the storey.
+required-is : (c : tie.After-required-strength) → let start = c .before .before .before .before .before in
+    c .required-strength .result ≡ required (now (start .args .table)) (start .args .storey)
+unfolding required requiredOf
+required-is c =
+    let at-narrow = c .before .before in
+    let at-row = at-narrow .before in
+    c .required-strength .ensures ∙ rw (narrow-is at-narrow, c .before .storey-part .ensures, at-row .storey-of .ensures, at-row .before .before .pre .0 .row)
+
+-- The layout factor, by the bands of both ends and the floor type.
+layout-is : (c : tie.After-layout-factor) → let start = c .before .before .before .before .before .before .before .before .before in
+    c .layout-factor .result ≡ layout (now (start .args .table)) (start .args .storey) (start .args .direction)
+unfolding layout storeyFloorType
+layout-is c =
+    let at-ends = c .before .before in
+    let at-row = at-ends .before .before .before .before .before in
+    c .layout-factor .ensures ∙ rw (at-ends .before .end-band .ensures, at-ends .end-band2 .ensures, c .before .floor-type .ensures, at-row .storey-of .ensures)
 
 returns : tie.Need-returns
 returns c =
     let at-required = c .before .before .before .before .before in
-    let start = at-required .before .before in
-    let stands = start .pre .1 .1 .1 in
+    let start = at-required .before .before .before .before .before in
+    let here = start .pre .1 .0 in
     rw (
       c .score .ensures,
-      start .pre .1 .0,
-      at-required .storey-required .ensures,
-      laid-out (c .before),
-      start .pre .1 .1 .0,
-      score-is _ (start .pre .0) _ _ (stands .0 .0) (stands .0 .1),
+      required-is at-required,
+      layout-is (c .before),
+      start .pre .1 .1 .1,
+      score-is _ (start .pre .0 .stands .accepted) _ _ (here .some-storey) (here .last-storey) (start .pre .1 .1 .0 .most),
     )
 
 pub assess-spec : {M : Type 1} → statement M
 assess-spec =
     tie.close
     (tie.spec
-    storey-required-requires
+    storey-of-requires
+    narrow-factor-requires
+    storey-part-requires
+    required-strength-requires
     end-band-requires
     end-band-requires-2
-    storey-floor-type-requires
+    floor-type-requires
     layout-factor-requires
     score-requires
     returns)

@@ -8,34 +8,24 @@ use lib.ListN.{length}
 use borrow.Author.Needs.{needs}
 use Rattle.answer.proofs.Lists.{over-length}
 use Rattle.sheet.specs.Sheet.{afterPrinting}
-use Rattle.diagnosis.specs.Report.{verdictRow}
-use Rattle.diagnosis.proofs.Rows.{results-length, rows-taken, report-printed}
-use Rattle.diagnosis.proofs.AcceptedTables.{storeys-few}
+use Rattle.diagnosis.proofs.ReportRows.{rows-length, rows-taken, rows-printed}
 use Rattle.diagnosis.proofs.reports.print_report.Statement.{statement}
 use Rattle.diagnosis.proofs.reports.print_report.Tie as tie
 
 fill-results-requires : tie.Need-fill-results-requires
-fill-results-requires c κs =
-    let start = c .before .before .before .before in
-    (start .pre .0, omega (arith, storeys-few _ (start .pre .0), start .pre .1 .0))
-
-mul-results : tie.Need-mul-results
-mul-results c = search needs
+fill-results-requires c κs = search needs
 
 filled-length : (c : tie.After-fill-results) → length (c .fill-results .last .1 .0) ≡ 56
 filled-length c =
-    let start = c .before .before .before .before .before in
-    ap length (c .fill-results .ensures .1) ∙ over-length _ _
-    (omega (arith, results-length (now (start .args .table)), storeys-few _ (start .pre .0), start .pre .1 .0)) ∙ start .pre .1 .0
-
-cell-requires : tie.Need-cell-requires
-cell-requires c κs = search needs
+    let start = c .before .before .before .before in
+    ap length (c .fill-results .ensures) ∙ over-length _ _
+    (omega (arith, rows-length (start .args .found) (start .args .found .count), start .pre .0 .few, start .pre .1 .0)) ∙ start .pre .1 .0
 
 cast-results : tie.Need-cast-results
 cast-results c = search needs
 
-mul-results-2 : tie.Need-mul-results-2
-mul-results-2 c = search needs
+mul-results : tie.Need-mul-results
+mul-results c = search needs
 
 add-numbers : tie.Need-add-numbers
 add-numbers c = search needs
@@ -53,9 +43,7 @@ part-put-row-start : tie.Need-part-put-row-start
 part-put-row-start c = search needs
 
 part-put-row-end : tie.Need-part-put-row-end
-part-put-row-end c =
-    let start = c .before .before .before .before .before .before .before .before .before in
-    omega (arith, c .before .cell .ensures, storeys-few _ (start .pre .0), start .pre .1 .0, filled-length (c .before .before .before .before))
+part-put-row-end c = search needs
 
 put-row-requires : tie.Need-put-row-requires
 put-row-requires c κs = search needs
@@ -67,15 +55,7 @@ part-print-rows-start : tie.Need-part-print-rows-start
 part-print-rows-start c = search needs
 
 part-print-rows-end : tie.Need-part-print-rows-end
-part-print-rows-end c =
-    let start = c .before .before .before .before .before .before .before .before .before .before .before .before .before .before in
-    omega (
-      arith,
-      c .before .before .before .before .before .before .cell .ensures,
-      storeys-few _ (start .pre .0),
-      start .pre .1 .0,
-      filled-length (c .before .before .before .before .before .before .before .before .before),
-    )
+part-print-rows-end c = search needs
 
 print-rows-requires : tie.Need-print-rows-requires
 print-rows-requires c κs = search needs
@@ -89,24 +69,22 @@ same-length-2 c = search needs
 returns : tie.Need-returns
 returns c =
     let at-put = c .before .before .before .before .before .before .before .before in
-    let at-cell = at-put .before .before .before in
-    let at-fill = at-cell .before .before .before in
-    let start = at-fill .before .before .before .before .before in
-    let table = now (start .args .table) in
+    let at-verdict = at-put .before .before in
+    let at-fill = at-verdict .before .before .before .before in
+    let start = at-fill .before .before .before .before in
+    let found = start .args .found in
     let report = now (start .args .report) in
-    let last = at-put .put-row .ensures ∙ at-put .before .before .verdict-row .ensures ∙ ap verdictRow (at-fill .fill-results .ensures .0) in
-    let taken = rows-taken table (now (start .args .rows)) (at-cell .cell .ensures) (omega (arith, storeys-few _ (start .pre .0), start .pre .1 .0)) (at-fill .fill-results .ensures .1) last in
-    c .before .before .print-rows .ensures ∙ ap (λ (rows : List ℕ). afterPrinting rows report) taken ∙ report-printed table report (start .pre .1 .1)
+    let last = at-put .put-row .ensures ∙ at-verdict .verdict-row .ensures in
+    let taken = rows-taken found (now (start .args .rows)) (omega (arith, start .pre .0 .few, start .pre .1 .0)) (at-fill .fill-results .ensures) last in
+    c .before .before .print-rows .ensures ∙ ap (λ (rows : List ℕ). afterPrinting rows report) taken ∙ rows-printed found report (start .pre .1 .1)
 
 pub print-report-spec : {M : Type 1} → statement M
 print-report-spec =
     tie.close
     (tie.spec
     fill-results-requires
-    mul-results
-    cell-requires
     cast-results
-    mul-results-2
+    mul-results
     add-numbers
     verdict-row-requires
     mul-put-row

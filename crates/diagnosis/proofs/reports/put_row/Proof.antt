@@ -6,7 +6,7 @@ use denote.Ref.{now}
 use lib.ListN.{length, take, length-set}
 use borrow.Author.Needs.{needs}
 use Rattle.answer.specs.Lists.{over}
-use Rattle.diagnosis.proofs.Rows.{column-more, row-copied}
+use Rattle.diagnosis.proofs.ReportRows.{column-more, row-copied}
 use Rattle.diagnosis.proofs.reports.put_row.Statement.{statement}
 use Rattle.diagnosis.proofs.reports.put_row.Tie as tie
 

@@ -5,6 +5,8 @@ use borrow.Author.Needs.{needs}
 use Rattle.answer.specs.Told.{told}
 use Rattle.survey.proofs.Acceptance.{judge-refused, judge-accepted}
 use Rattle.diagnosis.specs.Answers.{scoring}
+use Rattle.diagnosis.proofs.AcceptedTables.{stands}
+use Rattle.diagnosis.proofs.Assessments.{record-is}
 use Rattle.diagnosis.proofs.scores.score.Statement.{statement}
 use Rattle.diagnosis.proofs.scores.score.Tie as tie
 
@@ -17,8 +19,11 @@ enum-known-number c = search needs
 enum-told : tie.Need-enum-told
 enum-told c = search needs
 
+assess-house-requires : tie.Need-assess-house-requires
+assess-house-requires c κs = stands _ (judge-accepted _ (c .before .before .judge .ensures) (c .enum-told .given .1) .0)
+
 record-of-requires : tie.Need-record-of-requires
-record-of-requires c κs = judge-accepted _ (c .before .before .judge .ensures) (c .enum-told .given .1) .0
+record-of-requires c κs = search needs
 
 returns : tie.Need-returns
 unfolding scoring
@@ -30,9 +35,17 @@ returns c =
 returns-2 : tie.Need-returns-2
 unfolding scoring
 returns-2 c =
-    rw (eq-eqb _ 0 (judge-accepted _ (c .before .before .before .judge .ensures) (c .before .enum-told .given .1) .0), c .record-of .ensures)
+    let accepted = judge-accepted _ (c .before .before .before .before .judge .ensures) (c .before .before .enum-told .given .1) .0 in
+    rw (eq-eqb _ 0 accepted, c .record-of .ensures, c .before .assess-house .ensures, record-is _ accepted)
 
 pub score-spec : {M : Type 1} → statement M
 score-spec =
     tie.close
-    (tie.spec judge-requires enum-known-number enum-told record-of-requires returns returns-2)
+    (tie.spec
+    judge-requires
+    enum-known-number
+    enum-told
+    assess-house-requires
+    record-of-requires
+    returns
+    returns-2)

@@ -1,0 +1,33 @@
+-- `diagnosis::rows::storey_of` meets its contract. Assumes nothing.
+use borrow.Author.Needs.{needs}
+use Rattle.diagnosis.proofs.rows.storey_of.Statement.{statement}
+use Rattle.diagnosis.proofs.rows.storey_of.Tie as tie
+
+cast-t3 : tie.Need-cast-t3
+cast-t3 c = search needs
+
+cell-requires : tie.Need-cell-requires
+cell-requires c κs = search needs
+
+cell-requires-2 : tie.Need-cell-requires-2
+cell-requires-2 c κs = search needs
+
+cell-requires-3 : tie.Need-cell-requires-3
+cell-requires-3 c κs = search needs
+
+cell-requires-4 : tie.Need-cell-requires-4
+cell-requires-4 c κs = search needs
+
+returns : tie.Need-returns
+returns c = rw (c .before .before .before .cell .ensures, c .before .before .cell2 .ensures, c .before .cell3 .ensures, c .cell4 .ensures)
+
+pub storey-of-spec : {M : Type 1} → statement M
+storey-of-spec =
+    tie.close
+    (tie.spec
+    cast-t3
+    cell-requires
+    cell-requires-2
+    cell-requires-3
+    cell-requires-4
+    returns)
