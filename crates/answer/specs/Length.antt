@@ -1,12 +1,18 @@
--- Refusal 1. Document 01: "nothing lent, a length that isn't a multiple of 65 bytes (table: of 8 numbers), or over 311 lines or rows".
+-- The limits, and refusal 1. Document 01: "nothing lent, a length that isn't a multiple of 65 bytes (table: of 8 numbers), or over 311 lines or
+-- rows".
 use mathlib.Core.Path.{_≡_}
 use mathlib.Core.Bool.{cond}
-use Prim.Native.Nat.{ℕ, _*_, _/_, _%_, _<_, _≤_}
+use Prim.Native.Nat.{ℕ, _+_, _*_, _/_, _%_, _<_, _≤_}
 use lib.Dec.{eqb, leb}
 
--- The most lines of a sheet, and the most rows of a table.
+-- The most walls of a house. "Walls, 0 to 300".
+abbrev pub mostWalls : ℕ
+mostWalls = 300
+
+-- The most lines of a sheet, and the most rows of a table: the house's row, three storeys, their six ends, the walls, the parts row. "A sheet has
+-- at most 311 lines."
 abbrev pub mostRows : ℕ
-mostRows = 311
+mostRows = 1 + 3 + 6 + mostWalls + 1
 
 -- How many lines or rows of `unit` elements a length holds; 0, as where nothing is lent, if refusal 1 is due.
 unfoldable pub rowsIn : ℕ → ℕ → ℕ

@@ -3,7 +3,8 @@
 // The first layer: it uses nothing, and every other builds on it. The definition `told`
 // (specs/Told.antt) gives document 01's number and values for each case, and every promise about an
 // answer uses it. The rule of refusal 1 stands here too, since reading, writing and judging share it,
-// and the houses that the examples of every layer speak of (specs/Houses.antt).
+// and so do lists (specs/Lists.antt) and the houses that the examples of every layer speak of
+// (specs/Houses.antt).
 ghost use mathlib.Core.Path.{_≡_};
 ghost use Rattle.answer.specs.Length.{rowsIn};
 
@@ -39,8 +40,11 @@ pub const LENT_SPACE_SHORT: u32 = 9;
 // A table's numbers to a row.
 pub const ROW: usize = 8;
 
-// The most lines of a sheet, and the most rows of a table.
-pub const MOST_ROWS: usize = 311;
+// The most walls of a house.
+pub const MOST_WALLS: usize = 300;
+// The most lines of a sheet, and the most rows of a table: the house's row, three storeys, their six
+// ends, the walls, the parts row.
+pub const MOST_ROWS: usize = 1 + 3 + 6 + MOST_WALLS + 1;
 // And the numbers of the longest table.
 pub const MOST_NUMBERS: usize = MOST_ROWS * ROW;
 

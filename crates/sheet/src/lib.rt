@@ -16,8 +16,9 @@ pub use reader::read;
 pub use writer::print_rows;
 pub use writer::write;
 ghost use mathlib.Core.Path.{_≡_};
-ghost use Prim.Native.Nat.{_<_};
+ghost use Prim.Native.Nat.{_<_, _*_};
 ghost use Rattle.answer.specs.Told.{told, refusal};
+ghost use Rattle.answer.specs.Length.{mostRows};
 ghost use Rattle.sheet.specs.Sheet.{refusalAt};
 
 // A refusal that has no place.
@@ -33,7 +34,7 @@ fn refused(number: u32) -> Answer
 
 // The refusal at a place that counts from 0, row by row of so many columns.
 fn refused_at(number: u32, at: usize, columns: usize) -> Answer
-    requires at { ⌜ at < 4096 ⌝ }
+    requires at { ⌜ at < 9 * mostRows ⌝ }
     requires columns { ⌜ 0 < columns ⌝ }
     ensures { λ r. ⌜ told r ≡ refusalAt number columns at ⌝ }
 {

@@ -14,13 +14,13 @@ use Rattle.answer.specs.declared.Answer.{Answer}
 use Rattle.answer.specs.declared.Answer.the-variants.{Count, Refused}
 use Rattle.answer.specs.Told.{Told, told, counted, refusal, sheet-length, row-out-of-order, mark-on-absent-part}
 use Rattle.answer.specs.First.{first}
-use Rattle.answer.specs.Length.{rowsIn, Whole}
+use Rattle.answer.specs.Length.{mostWalls, rowsIn, Whole}
 use Rattle.answer.proofs.Refusals.{passed}
 use Rattle.answer.proofs.Places.{before-first, at-first}
 use Rattle.answer.proofs.Lengths.{rows-whole, rows-counted}
 use Rattle.survey.specs.Table.{cell, storeys, endsStorey, firstWall, wallRows, partsRow, rowsDue}
 use Rattle.survey.specs.Ranges.{zone, houseColumns, storeyColumns, endsColumns, wallColumns, partsColumns}
-use Rattle.survey.specs.Judgement.{fault, none, faulty, test, _then_, columnsFault, houseFault, storeyFault, endsFault, storeyBefore, mostWalls, wallFault, within, partsFault, rowFault, judging}
+use Rattle.survey.specs.Judgement.{fault, none, faulty, test, _then_, columnsFault, houseFault, storeyFault, endsFault, storeyBefore, wallFault, within, partsFault, rowFault, judging}
 use Rattle.survey.specs.Acceptance.{Inside, Accepted}
 use Rattle.survey.proofs.Faults.{not-faulty}
 use Rattle.survey.proofs.RowFaults.{ends-right, wall-right, parts-right, row-house, row-storey, row-ends, row-wall, row-parts, row-after}
@@ -127,7 +127,7 @@ module _ (table : List ℕ) (h : (judging table) .number ≡ 0) where
         omega (arith, eqb-false present 0 (test-clean (eqb present 0) _ (omega arith) (two .1))),
       )
 
-  -- At most 300 walls: the 301st would have a fault.
+  -- Not too many walls: the first that is too many would have a fault.
   walls-few : wallRows table ≤ mostWalls
   walls-few = go (decLt mostWalls (wallRows table))
     where

@@ -8,10 +8,11 @@ use lib.Dec.{lit<, eqb}
 use lib.Bits.{bitAnd}
 use borrow.Author.Tests.{eq-eqb, ne-eqb, lt-ltb, le-ltb, le-leb, lt-leb}
 use Rattle.answer.specs.Told.{row-out-of-order, out-of-range, too-many-walls, ends-exceed-storey, mark-on-absent-part, no-parts}
+use Rattle.answer.specs.Length.{mostWalls}
 use Rattle.survey.specs.declared.fault.Fault.{Fault}
 use Rattle.survey.specs.Table.{cell, storeys, endsStorey, firstWall, partsRow}
 use Rattle.survey.specs.Ranges.{endsColumns, wallColumns, partsColumns}
-use Rattle.survey.specs.Judgement.{fault, none, wrongColumn, columnsFault, endsFault, storeyBefore, mostWalls, wallFault, within, partsFault, houseFault, storeyFault, rowFault}
+use Rattle.survey.specs.Judgement.{fault, none, wrongColumn, columnsFault, endsFault, storeyBefore, wallFault, within, partsFault, houseFault, storeyFault, rowFault}
 use Rattle.survey.proofs.Faults.{found, passed, held, clear, test-finds, test-passes}
 
 gt-eqb : (row : ℕ) → 0 < row → eqb row 0 ≡ false

@@ -12,10 +12,11 @@ use lib.ListN.{length, getD, take, drop}
 use lib.Seq.{take-add, drop-drop}
 use borrow.Author.Tests.{eq-eqb, ne-eqb, not-true, not-false}
 use Rattle.answer.specs.First.{first}
+use Rattle.answer.specs.Length.{mostWalls}
 use Rattle.answer.proofs.Parts.{lent-part, part-size, part-element}
 use Rattle.answer.proofs.Places.{before-first, at-first, first-most}
 use Rattle.survey.specs.Table.{cell, isWall, storeys, firstWall, partsRow, rowsDue}
-use Rattle.survey.specs.Judgement.{mostWalls, judging}
+use Rattle.survey.specs.Judgement.{judging}
 use Rattle.survey.specs.Walls.{rowsFrom, rowsWhere, isWallOf, storeyWalls, runStart, runLength, storeyRun}
 use Rattle.survey.specs.Acceptance.{Accepted}
 use Rattle.survey.proofs.Acceptance.{accepted}

@@ -5,10 +5,10 @@ use mathlib.Core.Bool.{true}
 use mathlib.Core.List.{List}
 use Prim.Native.Nat.{ℕ, _+_, _<_, _≤_}
 use lib.ListN.{length, getD}
-use Rattle.answer.specs.Length.{Whole}
+use Rattle.answer.specs.Length.{mostWalls, Whole}
 use Rattle.survey.specs.Table.{cell, storeys, endsStorey, firstWall, wallRows, partsRow, rowsDue}
 use Rattle.survey.specs.Ranges.{Range, lows, highs, houseColumns, storeyColumns, endsColumns, wallColumns, partsColumns}
-use Rattle.survey.specs.Judgement.{mostWalls, within}
+use Rattle.survey.specs.Judgement.{within}
 
 -- Every number of a row lies in its column's range.
 abbrev pub Inside : List Range → List ℕ → ℕ → Type 0
@@ -31,7 +31,7 @@ pub record Accepted (table : List ℕ) : Type 0 where
   pub parts-inside : Inside partsColumns table (partsRow table)
   -- The two ends' areas are at most their storey's.
   pub ends-fit : (row : ℕ) → storeys table < row → row < firstWall table → cell table row 3 + cell table row 4 ≤ cell table (endsStorey table row) 2
-  -- The walls' storeys never fall, and there are at most 300 walls.
+  -- The walls' storeys never fall, and there are not too many walls.
   pub sorted : (row : ℕ) → firstWall table ≤ row → row + 1 < partsRow table → cell table row 1 ≤ cell table (row + 1) 1
   pub few : wallRows table ≤ mostWalls
   -- Every mark is on a part that is present, and some part is.

@@ -8,7 +8,7 @@ use lib.Dec.{eqb, leb, ltb}
 use lib.Bits.{bitAnd}
 use Rattle.answer.specs.Told.{Told, counted, refusal, sheet-length, row-out-of-order, out-of-range, too-many-walls, ends-exceed-storey, mark-on-absent-part, no-parts}
 use Rattle.answer.specs.First.{first}
-use Rattle.answer.specs.Length.{rowsIn}
+use Rattle.answer.specs.Length.{mostWalls, rowsIn}
 use Rattle.survey.specs.Table.{cell, storeys, endsStorey, firstWall, partsRow, rowsDue}
 use Rattle.survey.specs.Ranges.{Range, lows, highs, houseColumns, storeyColumns, endsColumns, wallColumns, partsColumns}
 use Rattle.survey.specs.declared.fault.Fault.{Fault}
@@ -65,9 +65,6 @@ endsFault table row =
 -- The storey of the wall before; 0 before the first wall.
 unfoldable pub storeyBefore : List ℕ → ℕ → ℕ
 storeyBefore table row = cond (eqb row (firstWall table)) 0 (cell table (row - 1) 1)
-
-abbrev pub mostWalls : ℕ
-mostWalls = 300
 
 -- "In a wall row whose storey falls, 3 comes before 4"; "the 301st wall row".
 unfoldable pub wallFault : List ℕ → ℕ → Fault

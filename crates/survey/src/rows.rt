@@ -14,6 +14,7 @@ use crate::fault::no_fault;
 use crate::table::cell;
 use answer::ENDS_EXCEED_STOREY;
 use answer::MARK_ON_ABSENT_PART;
+use answer::MOST_WALLS;
 use answer::NO_PARTS;
 use answer::ROW_OUT_OF_ORDER;
 use answer::TOO_MANY_WALLS;
@@ -23,9 +24,6 @@ ghost use lib.ListN.{length};
 ghost use Rattle.survey.specs.Table.{cell, firstWall};
 ghost use Rattle.survey.specs.Ranges.{zone, isOpening, wallColumns};
 ghost use Rattle.survey.specs.Judgement.{columnsFault, houseFault, storeyFault, endsFault, storeyBefore, wallFault, partsFault};
-
-// The most walls of a house.
-const MOST_WALLS: usize = 300;
 
 // The zone that a number is; 100 where it is none.
 fn zone(number: u32) -> u32
