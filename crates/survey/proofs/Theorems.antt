@@ -3,6 +3,7 @@
 use mathlib.Core.Path.{_≡_}
 use mathlib.Core.List.{List, [], _∷_, map}
 use Prim.Native.Nat.{ℕ, _<_, _≤_}
+use lib.Dec.{eqb}
 use lib.ListN.{set}
 use Rattle.answer.specs.Told.{counted, refusal, no-parts}
 use Rattle.answer.specs.Houses.{p1, twoStoreys}
@@ -32,6 +33,10 @@ accepted-count table h = acceptance.accepted-count table h
 -- No number above 8 is told, so judging never tells of lent space.
 pub judging-known : (table : List ℕ) → judging table .number ≤ no-parts
 judging-known table = refusal-numbers.judging-known table
+
+-- What judging tells is a count just where the number is 0, so a host can tell by the number.
+pub judging-by-number : (table : List ℕ) → judging table .counts ≡ eqb (judging table .number) 0
+judging-by-number table = refusal-numbers.judging-by-number table
 
 -- A storey's walls. Of an accepted table the first unbroken run of a storey's wall rows is all of its walls.
 pub run-is-walls : (table : List ℕ) → judging table .number ≡ 0 → (storey : ℕ) → storeyRun table storey ≡ storeyWalls table storey

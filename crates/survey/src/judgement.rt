@@ -101,5 +101,6 @@ pub fn judge(table: &[u32]) -> Answer
     if rows <= parts {
         return refused(fault_at(ROW_OUT_OF_ORDER, 1), rows);
     }
-    Answer::Count(rows as u32)
+    let count = rows as u32;
+    Answer::Count(count)
 }

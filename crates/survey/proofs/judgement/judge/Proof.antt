@@ -122,8 +122,8 @@ returns-4 c =
     c .refused3 .ensures ∙ judging-short _ (at-if1 .before .rows-in .ensures) (at-if1 .if1 .left) (clean at-end)
     (rw (← at-parts .parts-row .ensures) (omega (arith, c .before .before .if4 .taken))) (c .before .fault-at .ensures)
 
-cast-t10 : tie.Need-cast-t10 Inv-loop μ-loop
-cast-t10 c = omega (arith, whole (c .before .before .before .before .before .before .before .before))
+cast-count : tie.Need-cast-count Inv-loop μ-loop
+cast-count c = omega (arith, whole (c .before .before .before .before .before .before .before .before))
 
 returns-5 : tie.Need-returns-5 Inv-loop μ-loop
 returns-5 c =
@@ -158,5 +158,5 @@ judge-spec =
     fault-at-requires
     refused-requires-3
     returns-4
-    cast-t10
+    cast-count
     returns-5)
