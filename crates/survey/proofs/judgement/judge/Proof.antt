@@ -55,18 +55,8 @@ cell-requires c κs = search needs
 cast-storeys : tie.Need-cast-storeys Inv-loop μ-loop
 cast-storeys c = search needs
 
-mul-parts-row : tie.Need-mul-parts-row Inv-loop μ-loop
-mul-parts-row c = search needs
-
-add-parts-row : tie.Need-add-parts-row Inv-loop μ-loop
-add-parts-row c = search needs
-
 parts-row-requires : tie.Need-parts-row-requires Inv-loop μ-loop
-parts-row-requires c κs =
-    let at-if1 = c .before .before .before .before in
-    let size = whole at-if1 in
-    let house = house-storeys _ (clean-house (c .before)) in
-    ((size .whole, size .some), (ap (λ (n : ℕ). 3 * n + 1) (c .cell .ensures), omega (arith, house, c .cell .ensures)))
+parts-row-requires c κs = search needs
 
 loop-holds : tie.Need-loop-holds Inv-loop μ-loop
 loop-holds c =
@@ -145,8 +135,6 @@ judge-spec =
     returns-2
     cell-requires
     cast-storeys
-    mul-parts-row
-    add-parts-row
     parts-row-requires
     loop-holds
     row-fault-requires
