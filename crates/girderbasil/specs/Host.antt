@@ -1,4 +1,4 @@
--- The paper's values of the structs of numbers in which answers cross to a host. Document 01: "The host program on the phone calls it with
+-- What the structs tell that a host gets, in the paper's values. Document 01: "The host program on the phone calls it with
 -- numbers and byte slices and must get the same answers."
 use mathlib.Core.List.{List}
 use Prim.Native.Nat.{ℕ}

@@ -129,8 +129,8 @@ pub extern "C" fn girderbasil_write_report(table: &[u32], report: &mut [u8]) -> 
     host_answer(diagnosis::report(table, report))
 }
 
-// What the scoring program prints for a sheet: its report, or the line of its refusal alone. Nothing is
-// lent to be filled.
+// What the scoring program prints for a sheet: its report, or the line of its refusal alone. The host
+// lends no storage for it: the bytes are in the answer.
 #[no_mangle]
 pub extern "C" fn girderbasil_diagnose(sheet: &[u8]) -> HostOutput
     ensures { λ r. ⌜ r ≡ printedFor (now (sheet .entry)) ⌝ }

@@ -1,5 +1,5 @@
 -- The sheet's theorems on one page, each with its statement in full and a citation for its proof. They are about demand 2 of the
--- customer: "A sheet read and written again is the same sheet; a valid table written and read again is the same table." A table is
+-- customer: a sheet read and written again is the same sheet, and a valid table written and read again is the same table. A table is
 -- valid where the writer accepts it. The words of the statements are defined in specs/Field.antt and specs/Sheet.antt, and in
 -- Told.antt, Length.antt, Text.antt and Houses.antt of crates/answer/specs/. Assumes nothing.
 use mathlib.Core.Path.{_≡_}

@@ -42,7 +42,7 @@ judging-by-number table = refusal-numbers.judging-by-number table
 pub run-is-walls : (table : List ℕ) → judging table .number ≡ 0 → (storey : ℕ) → storeyRun table storey ≡ storeyWalls table storey
 run-is-walls table h storey = storey-walls.run-is-walls table h storey
 
--- "Empty where scoring refuses the table or the house lacks the storey".
+-- The part "is empty where scoring refuses the table or the house lacks the storey".
 pub walls-refused : (table : List ℕ) (storey : ℕ) → (judging table .number ≡ 0 → ⊥) → storeyWalls table storey ≡ []
 walls-refused table storey refused = storey-walls.walls-refused table storey refused
 

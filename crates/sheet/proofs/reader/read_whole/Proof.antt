@@ -1,4 +1,4 @@
--- `sheet::reader::read_by` meets its contract: the refusal of a misprint, or the numbers copied. Assumes nothing.
+-- `sheet::reader::read_whole` meets its contract: the refusal of a misprint, or the numbers copied. Assumes nothing.
 use mathlib.Core.Path.{_≡_, ap, _∙_}
 use Prim.Native.Nat.{ℕ, _*_, _-_, _<_}
 use lib.ListN.{take}
@@ -13,8 +13,8 @@ use Rattle.answer.proofs.Lists.{over-front}
 use Rattle.sheet.proofs.Sheets.{numbers-length}
 use Rattle.sheet.proofs.Answers.{reading-misprint, reading-accepted}
 use borrow.Author.Needs.{needs}
-use Rattle.sheet.proofs.reader.read_by.Statement.{statement}
-use Rattle.sheet.proofs.reader.read_by.Tie as tie
+use Rattle.sheet.proofs.reader.read_whole.Statement.{statement}
+use Rattle.sheet.proofs.reader.read_whole.Tie as tie
 
 whole : {n lines : ℕ} → lines ≡ rowsIn 65 n → 0 < lines → Whole 65 n lines
 whole so-many some = rows-whole 65 _ so-many (λ none. omega arith)
@@ -89,8 +89,8 @@ returns-2 c =
     let front = ap (take (8 * lines - 0)) read ∙ over-front _ (numbersOf (8 * lines) sheet) (8 * lines) (numbers-length (8 * lines) sheet) in
     (case .0, c .before .before .put-numbers .ensures ∙ ap (over table) front ∙ case .1)
 
-pub read-by-spec : {M : Type 1} → statement M
-read-by-spec =
+pub read-whole-spec : {M : Type 1} → statement M
+read-whole-spec =
     tie.close
     (tie.spec
     read-lines-requires
