@@ -14,7 +14,7 @@ use Rattle.answer.specs.declared.Answer.the-variants.{Count, Refused}
 use Rattle.sheet.specs.Sheet.{reading, afterReading, writing, afterWriting, rowsRead}
 use Rattle.sheet.proofs.Answers.{accepted-count, read-refused, read-accepted}
 use Rattle.sheet.proofs.RoundTrip.{read-then-write, read-then-short}
-use Rattle.sheets.specs.Again.{again, afterAgain}
+use Rattle.run_sheets.specs.Again.{again, afterAgain}
 
 module _ (sheet table : List ℕ) {answer : Answer} (read : told answer ≡ reading sheet (length table)) where
   pub again-refused : (bytes : List ℕ) {number row column : ℕ} → answer ≡ Refused number row column

@@ -1,14 +1,14 @@
--- `sheets::again` meets its contract, by the round trip. Assumes nothing.
+-- `run_sheets::again` meets its contract, by the round trip. Assumes nothing.
 use mathlib.Core.Path.{ap, _∙_}
 use mathlib.Core.List.{List}
 use Prim.Native.Nat.{ℕ, _*_, _-_}
 use lib.ListN.{length, take}
 use denote.Ref.{now}
 use Rattle.sheet.specs.Sheet.{writing, afterWriting}
-use Rattle.sheets.proofs.Rewriting.{again-refused, again-rows, again-written}
+use Rattle.run_sheets.proofs.Rewriting.{again-refused, again-rows, again-written}
 use borrow.Author.Needs.{needs}
-use Rattle.sheets.proofs.again.Statement.{statement}
-use Rattle.sheets.proofs.again.Tie as tie
+use Rattle.run_sheets.proofs.again.Statement.{statement}
+use Rattle.run_sheets.proofs.again.Tie as tie
 
 read-requires : tie.Need-read-requires
 read-requires c κs = search needs

@@ -1,10 +1,10 @@
--- `surveys::run_large` is safe and ends: the measure is the numbers that are left. Assumes nothing.
+-- `run_surveys::run_large` is safe and ends: the measure is the numbers that are left. Assumes nothing.
 use mathlib.Core.Path.{_≡_}
 use Prim.Native.Nat.{_-_}
 use lib.ListN.{length}
 use borrow.Author.Needs.{needs}
-use Rattle.surveys.proofs.run_large.Statement.{statement}
-use Rattle.surveys.proofs.run_large.Tie as tie
+use Rattle.run_surveys.proofs.run_large.Statement.{statement}
+use Rattle.run_surveys.proofs.run_large.Tie as tie
 
 abbrev Inv-loop : tie.InvT-loop
 Inv-loop table₀ at₀ table at = length table ≡ length table₀

@@ -1,14 +1,14 @@
--- `sheets::main` is safe and ends: the measure is the arguments that are left. Assumes nothing.
+-- `run_houses::main` is safe and ends: the measure is the arguments that are left. Assumes nothing.
 use Prim.Native.Nat.{_-_}
 use borrow.Author.Needs.{needs}
-use Rattle.sheets.proofs.main.Statement.{statement}
-use Rattle.sheets.proofs.main.Tie as tie
+use Rattle.run_houses.proofs.main.Statement.{statement}
+use Rattle.run_houses.proofs.main.Tie as tie
 
 abbrev Inv-loop : tie.InvT-loop
-Inv-loop count lendings₀ i₀ lendings i = Unit {0}
+Inv-loop count i₀ i = Unit {0}
 
 abbrev μ-loop : tie.MeasureT-loop
-μ-loop count lendings₀ i₀ lendings i = count - i
+μ-loop count i₀ i = count - i
 
 pub main-spec : {M : Type 1} → statement M
 main-spec =

@@ -1,10 +1,10 @@
--- `sheets::print_again` is safe: what is counted is within the bytes. Assumes nothing.
+-- `run_sheets::print_again` is safe: what is counted is within the bytes. Assumes nothing.
 use lib.ListN.{length}
 use denote.Ref.{now}
-use Rattle.sheets.proofs.Rewriting.{again-counted}
+use Rattle.run_sheets.proofs.Rewriting.{again-counted}
 use borrow.Author.Needs.{needs}
-use Rattle.sheets.proofs.print_again.Statement.{statement}
-use Rattle.sheets.proofs.print_again.Tie as tie
+use Rattle.run_sheets.proofs.print_again.Statement.{statement}
+use Rattle.run_sheets.proofs.print_again.Tie as tie
 
 again-requires : tie.Need-again-requires
 again-requires c κs = search needs

@@ -9,7 +9,7 @@ use libc::STDOUT_FILENO;
 ghost use mathlib.Core.Path.{_≡_};
 ghost use lib.ListN.{length};
 ghost use Rattle.answer.specs.Told.{told};
-ghost use Rattle.sheets.specs.Again.{again, afterAgain};
+ghost use Rattle.run_sheets.specs.Again.{again, afterAgain};
 
 // The numbers of a sheet that is a line longer than the longest, and its bytes.
 const TABLE: usize = MOST_NUMBERS + sheet::ROW;

@@ -1,9 +1,9 @@
--- `surveys::run_lengths` is safe and ends: the measure is the fronts that are left. Assumes nothing.
+-- `run_surveys::run_lengths` is safe and ends: the measure is the fronts that are left. Assumes nothing.
 use Prim.Native.Nat.{_-_, suc}
 use lib.ListN.{length}
 use borrow.Author.Needs.{needs}
-use Rattle.surveys.proofs.run_lengths.Statement.{statement}
-use Rattle.surveys.proofs.run_lengths.Tie as tie
+use Rattle.run_surveys.proofs.run_lengths.Statement.{statement}
+use Rattle.run_surveys.proofs.run_lengths.Tie as tie
 
 abbrev Inv-loop : tie.InvT-loop
 Inv-loop table front₀ front = Unit {0}

@@ -1,8 +1,8 @@
--- `houses::print_diagnosis` is safe: what is printed is a part of the bytes that it was given. Assumes nothing.
+-- `run_houses::print_diagnosis` is safe: what is printed is a part of the bytes that it was given. Assumes nothing.
 use borrow.Author.Needs.{needs}
 use Rattle.diagnosis.proofs.Reporting.{output-within}
-use Rattle.houses.proofs.print_diagnosis.Statement.{statement}
-use Rattle.houses.proofs.print_diagnosis.Tie as tie
+use Rattle.run_houses.proofs.print_diagnosis.Statement.{statement}
+use Rattle.run_houses.proofs.print_diagnosis.Tie as tie
 
 output-of-requires : tie.Need-output-of-requires
 output-of-requires c κs = search needs

@@ -1,8 +1,8 @@
--- `surveys::main` is safe and ends: the measure is the arguments that are left. Assumes nothing.
+-- `run_surveys::main` is safe and ends: the measure is the arguments that are left. Assumes nothing.
 use Prim.Native.Nat.{_-_}
 use borrow.Author.Needs.{needs}
-use Rattle.surveys.proofs.main.Statement.{statement}
-use Rattle.surveys.proofs.main.Tie as tie
+use Rattle.run_surveys.proofs.main.Statement.{statement}
+use Rattle.run_surveys.proofs.main.Tie as tie
 
 abbrev μ-loop : tie.MeasureT-loop
 μ-loop count way₀ i₀ way i = count - i
