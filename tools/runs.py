@@ -25,10 +25,12 @@ def sheet(rows):
     return b"".join(line(row) for row in rows)
 
 
-def main(crate, made, arguments):
-    """Writes a crate's files, each by its name and content; with --check compares them instead."""
+def main(tool, made, arguments):
+    """Writes the files of the crate that a tool makes runs for, each by its name and content; with --check compares them
+    instead."""
+    crate = f"run_{tool}"
     if arguments not in ([], ["--check"]):
-        print(f"usage: tools/{crate} [--check]")
+        print(f"usage: tools/{tool} [--check]")
         return 2
     root = os.path.join(os.path.dirname(os.path.abspath(__file__)), "..", "crates", crate)
     data = os.path.join(root, "data")

@@ -1,4 +1,4 @@
-//! The model on the houses of crates/houses: it gives the output that is expected of the program there.
+//! The model on the houses of crates/run_houses: it gives the output that is expected of the program there.
 
 mod common;
 
@@ -28,7 +28,7 @@ fn print_answer(answer: Result<usize, Refusal>, printed: &mut Vec<u8>) {
 
 #[test]
 fn the_model_prints_what_is_expected_of_the_program() {
-    let folder = common::top().join("crates/houses");
+    let folder = common::top().join("crates/run_houses");
     let names = fs::read_to_string(folder.join("args")).expect("the houses' names");
     let mut printed = Vec::new();
     for name in names.lines() {

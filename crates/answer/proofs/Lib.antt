@@ -1,4 +1,4 @@
--- The laws about answers, lengths and lists that other crates cite.
+-- The laws about answers, places, lengths and lists that other crates cite.
 pub mod Refusals
 pub mod Places
 pub mod Lengths

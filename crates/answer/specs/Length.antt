@@ -14,11 +14,11 @@ mostWalls = 300
 abbrev pub mostRows : ℕ
 mostRows = 1 + 3 + 6 + mostWalls + 1
 
--- How many lines or rows of `unit` elements a length holds; 0, as where nothing is lent, if refusal 1 is due.
+-- How many lines or rows of `unit` elements a length holds; 0 where refusal 1 is due.
 unfoldable pub rowsIn : ℕ → ℕ → ℕ
 rowsIn unit n = cond (eqb (n % unit) 0) (cond (leb (n / unit) mostRows) (n / unit) 0) 0
 
--- What a length that refusal 1 does not name is made of.
+-- A length of so many rows, for which refusal 1 is not due.
 pub record Whole (unit n rows : ℕ) : Type 0 where
   pub some : 0 < rows
   pub most : rows ≤ mostRows

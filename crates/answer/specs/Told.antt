@@ -1,25 +1,26 @@
 -- What an answer tells. Document 01, "What a refused sheet is told".
 use Prim.Native.Nat.{ℕ}
-use mathlib.Core.Bool.{Bool}
+use mathlib.Core.Bool.{Bool, true, false}
 use lib.Dec.{eqb}
 use Rattle.answer.specs.declared.Answer.{Answer}
 use Rattle.answer.specs.declared.Answer.the-variants.{Count, Refused}
 
--- The paper's values: a refusal's number (0 where the answer is a count), its row and column, and the count.
+-- What is told, in the word of that heading: whether the answer is a count; a refusal's number (0 where it is a count), its row and column; and
+-- the count.
 pub record Told : Type 0 where
+  pub counts : Bool
   pub number : ℕ
   pub row : ℕ
   pub column : ℕ
   pub count : ℕ
 
 abbrev pub counted : ℕ → Told
-counted n = record { number = 0; row = 0; column = 0; count = n }
+counted n = record { counts = true; number = 0; row = 0; column = 0; count = n }
 
 abbrev pub refusal : ℕ → ℕ → ℕ → Told
-refusal number row column = record { number = number; row = row; column = column; count = 0 }
+refusal number row column = record { counts = false; number = number; row = row; column = column; count = 0 }
 
--- The paper's number and values for each case of the code's answer. (Count 0 and a refusal numbered 0 would tell the same; neither
--- is ever due: an accepted sheet or table has a row, and the numbers start at 1.)
+-- The paper's number and values for each case of the code's answer.
 abbrev pub told : Answer → Told
 told (Count n) = counted n
 told (Refused number row column) = refusal number row column

@@ -1,6 +1,6 @@
 // What every operation on lent storage answers: a count, or a refusal with its place.
 //
-// The first layer: it uses nothing, and every other builds on it. The definition `told`
+// The lowest layer: it uses no other crate. The definition `told`
 // (specs/Told.antt) gives document 01's number and values for each case, and every promise about an
 // answer uses it. The rule of refusal 1 stands here too, since reading, writing and judging share it,
 // and so do lists (specs/Lists.antt) and the houses that the examples of every layer speak of
@@ -37,7 +37,7 @@ pub const NO_PARTS: u32 = 8;
 // Lent space short.
 pub const LENT_SPACE_SHORT: u32 = 9;
 
-// A table's numbers to a row.
+// How many numbers a row of a table has.
 pub const ROW: usize = 8;
 
 // The most walls of a house.
@@ -45,7 +45,7 @@ pub const MOST_WALLS: usize = 300;
 // The most lines of a sheet, and the most rows of a table: the house's row, three storeys, their six
 // ends, the walls, the parts row.
 pub const MOST_ROWS: usize = 1 + 3 + 6 + MOST_WALLS + 1;
-// And the numbers of the longest table.
+// The numbers of the longest table.
 pub const MOST_NUMBERS: usize = MOST_ROWS * ROW;
 
 // How many lines of `unit` bytes, or rows of `unit` numbers, a length holds; 0 where refusal 1 is

@@ -5,7 +5,7 @@ use mathlib.Core.List.{List}
 use Prim.Native.Nat.{ℕ, _-_, _*_, _<_, _≤_}
 use native.Mathlib.Nat.{le-refl}
 use native.Mathlib.Omega.{arith}
-use lib.Dec.{T, ltb, lit≤}
+use lib.Dec.{T, eqb, ltb, lit≤}
 use lib.ListN.{length, take, replicate}
 use borrow.Author.Tests.{eq-eqb, ne-eqb, lt-ltb, le-ltb, eqb-true, eqb-false, ltb-true, ltb-false}
 use Rattle.answer.specs.declared.Answer.{Answer}
@@ -14,11 +14,12 @@ use Rattle.answer.specs.Told.{Told, told, counted, refusal, accepts, lent-space
 use Rattle.answer.specs.Length.{rowsIn}
 use Rattle.answer.specs.Lists.{joined, part, over}
 use Rattle.answer.proofs.Lists.{over-length, over-front}
+use Rattle.answer.proofs.Refusals.{either-by-number, refused-number}
 use Rattle.sheet.specs.Sheet.{reading, afterReading, linesOf, afterPrinting}
 use Rattle.sheet.proofs.Sheets.{numbers-length, line-length, lines-length, printing-rows}
-use Rattle.sheet.proofs.Answers.{Readable, accepted-readable, readable-accepted, never-short, read-refused, read-accepted}
+use Rattle.sheet.proofs.Answers.{Readable, accepted-readable, readable-accepted, never-short, reading-by-number, read-refused, read-accepted}
 use Rattle.survey.specs.Judgement.{judging}
-use Rattle.survey.proofs.RefusalNumbers.{judging-known}
+use Rattle.survey.proofs.RefusalNumbers.{judging-known, judging-by-number}
 use Rattle.survey.proofs.Acceptance.{judge-refused}
 use Rattle.diagnosis.specs.Program.{mostNumbers, tableOf, diagnosing, afterDiagnosing, mostReportBytes, output, outputBytes}
 use Rattle.diagnosis.specs.Report.{reportRows, reportLines, reportBytes, reporting, afterReporting, refusalRow, refusalLine}
@@ -98,6 +99,20 @@ module _ (sheet table lent : List ℕ) {answer : Answer} (long : length table �
         let taken = table-taken f in
         (r ∙ rw (taken, accepted), a ∙ rw (taken, accepted))
 
+-- An answer is a count just where its number is 0.
+pub reporting-by-number : (table : List ℕ) (lent : ℕ) → reporting table lent .counts ≡ eqb (reporting table lent .number) 0
+unfolding reporting
+reporting-by-number table lent =
+    let bytes = 65 * reportLines table in
+    let written = either-by-number (ltb lent bytes) (refusal lent-space-short 0 0) (counted bytes) refl refl in
+    either-by-number (accepts (judging table)) _ (judging table) written (judging-by-number table)
+
+pub diagnosing-by-number : (sheet : List ℕ) (lent : ℕ) → diagnosing sheet lent .counts ≡ eqb (diagnosing sheet lent .number) 0
+unfolding diagnosing
+diagnosing-by-number sheet lent =
+    let read = reading sheet mostNumbers in
+    either-by-number (accepts read) (reporting (tableOf sheet) lent) read (reporting-by-number (tableOf sheet) lent) (reading-by-number sheet mostNumbers)
+
 -- The ways out of diagnosing a sheet: a refusal of reading, a refusal of judging, 9, or the count of the report's bytes. What holds of all of
 -- them holds of the answer.
 module _ (sheet : List ℕ) (lent : ℕ) where
@@ -152,14 +167,7 @@ module _ (sheet : List ℕ) (lent : ℕ) where
         (sym (ap told e) ∙ diagnosed)
 
     pub diagnosed-refusal : {number row column : ℕ} → answer ≡ Refused number row column → accepts (diagnosing sheet lent) ≡ false
-    diagnosed-refusal {number} {row} {column} e =
-        by-way-out
-        (λ answer. refusal number row column ≡ answer → accepts answer ≡ false)
-        (λ r e. ne-eqb (reading sheet mostNumbers .number) 0 r)
-        (λ j e. ne-eqb (judging (tableOf sheet) .number) 0 j)
-        (λ j l e. refl)
-        (λ l e. absurd (omega (arith, ap (λ (t : Told). t .count) e)))
-        (sym (ap told e) ∙ diagnosed)
+    diagnosed-refusal e = refused-number diagnosed (diagnosing-by-number sheet lent) e
 
 -- One row printed.
 refusal-line : (number row column : ℕ) → linesOf 1 (refusalRow number row column) ≡ refusalLine number row column

@@ -21,7 +21,7 @@ use Rattle.diagnosis.specs.declared.scores.Scoring.{Scoring}
 use Rattle.diagnosis.specs.Rows.{weight, zone, ground, age, marked}
 use Rattle.diagnosis.specs.House.{InHouse, higherBand, scoreBefore, fullScore, leastScore, houseVerdict}
 use Rattle.diagnosis.specs.Answers.{toldScoring, recordOf, scoring}
-use Rattle.diagnosis.specs.Report.{reportRows, reportLines, reportBytes}
+use Rattle.diagnosis.specs.Report.{reportRows, reportLines, reportBytes, reporting}
 use Rattle.diagnosis.specs.Program.{tableOf, diagnosing, afterDiagnosing, mostReportBytes, output}
 use Rattle.diagnosis.specs.Comparison.{mayDiffer, NoLower, SameOrWorse, BandKept, scoreAt, NoBetter, Applies}
 use Rattle.diagnosis.specs.Worked.{p1Report, p10, sound, heavy, zone100, softGround, overTen, moreMarks, allWorse, figures, sameBands}
@@ -50,6 +50,13 @@ record-score = score-lists.record-score
 -- A table is scored just where the refusal's number is 0, so a host can tell by the number.
 pub scored-by-number : (table : List ℕ) → scoring table .scored ≡ eqb (scoring table .number) 0
 scored-by-number = score-lists.scored-by-number
+
+-- What is told of a report, of a table's or of a sheet's, is a count just where the number is 0.
+pub reporting-by-number : (table : List ℕ) (lent : ℕ) → reporting table lent .counts ≡ eqb (reporting table lent .number) 0
+reporting-by-number = program.reporting-by-number
+
+pub diagnosing-by-number : (sheet : List ℕ) (lent : ℕ) → diagnosing sheet lent .counts ≡ eqb (diagnosing sheet lent .number) 0
+diagnosing-by-number = program.diagnosing-by-number
 
 -- Demand 3
 

@@ -1,4 +1,4 @@
--- Answers that cross to a host: a refusal of scoring crosses as it is told, its number is not 0; and so does what is printed. Assumes nothing.
+-- Answers that cross to a host as they are told: the number says whether it is a refusal, since no refusal is numbered 0. Assumes nothing.
 use mathlib.Core.Path.{_≡_, sym, ap, _∙_}
 use mathlib.Core.Bool.{false}
 use mathlib.Core.List.{List}
@@ -12,8 +12,13 @@ use Rattle.diagnosis.specs.declared.scores.Record.{Record}
 use Rattle.diagnosis.specs.Answers.{ToldScoring, toldOutcome, scoring}
 use Rattle.diagnosis.specs.Program.{diagnosing, mostReportBytes, output, outputBytes}
 use Rattle.girderbasil.specs.declared.HostAnswer.{HostAnswer}
-use Rattle.girderbasil.specs.Host.{toldHost, printedFor}
+use Rattle.girderbasil.specs.Host.{toldHost, hostNumbers, printedFor}
 use Rattle.diagnosis.proofs.ScoreLists.{scored-by-number}
+
+-- An answer crosses as it is told, where it is a count just where its number is 0.
+pub answer-crosses : {crossed : HostAnswer} {answer tells : Told} → crossed ≡ hostNumbers answer → answer ≡ tells
+    → tells .counts ≡ eqb (tells .number) 0 → toldHost crossed ≡ tells
+answer-crosses crosses e by-number = ap toldHost (crosses ∙ ap hostNumbers e) ∙ rw (← by-number)
 
 refused-number : (table : List ℕ) {number row column : ℕ} {result : Record} → toldOutcome (Refused number row column) result ≡ scoring table
     → eqb number 0 ≡ false
@@ -30,14 +35,6 @@ refused-crosses table e told crosses =
 
 -- What is printed crosses with the refusal that it tells.
 pub output-crosses : (sheet : List ℕ) {answer : Told} (crossed : HostAnswer) {bytes : List ℕ} {count : ℕ}
-    → (answer ≡ diagnosing sheet mostReportBytes) × ((bytes ≡ outputBytes sheet) × (count ≡ length (output sheet))) → toldHost crossed ≡ answer
+    → (answer ≡ diagnosing sheet mostReportBytes) × ((bytes ≡ outputBytes sheet) × (count ≡ length (output sheet))) → crossed ≡ hostNumbers answer
     → record { number = crossed .number; row = crossed .row; column = crossed .column; count = count; bytes = bytes } ≡ printedFor sheet
-output-crosses sheet crossed printed told =
-    let tells = told ∙ printed .0 in
-    rw (
-      ap (λ (t : Told). t .number) tells,
-      ap (λ (t : Told). t .row) tells,
-      ap (λ (t : Told). t .column) tells,
-      printed .1 .0,
-      printed .1 .1,
-    )
+output-crosses sheet crossed printed crosses = rw (crosses, printed .0, printed .1 .0, printed .1 .1)

@@ -1,4 +1,4 @@
--- The paper's values of the structs of numbers in which answers cross to a host. Document 01: "The host program on the phone calls it with
+-- What the structs tell that a host gets, in the paper's values. Document 01: "The host program on the phone calls it with
 -- numbers and byte slices and must get the same answers."
 use mathlib.Core.List.{List}
 use Prim.Native.Nat.{ℕ}
@@ -11,9 +11,19 @@ use Rattle.girderbasil.specs.declared.HostAnswer.{HostAnswer}
 use Rattle.girderbasil.specs.declared.HostScoring.{HostScoring}
 use Rattle.girderbasil.specs.declared.HostOutput.{HostOutput}
 
--- A count or a refusal.
+-- A count or a refusal: it is a count where the number is 0.
 abbrev pub toldHost : HostAnswer → Told
-toldHost answer = record { number = answer .number; row = answer .row; column = answer .column; count = answer .count }
+toldHost answer = record {
+  counts = eqb (answer .number) 0;
+  number = answer .number;
+  row = answer .row;
+  column = answer .column;
+  count = answer .count;
+}
+
+-- The numbers that cross for what is told.
+abbrev pub hostNumbers : Told → HostAnswer
+hostNumbers answer = record { number = answer .number; row = answer .row; column = answer .column; count = answer .count }
 
 -- A record or a refusal: the table is scored where the number is 0.
 abbrev pub toldHostScoring : HostScoring → ToldScoring

@@ -16,7 +16,7 @@ ghost use Rattle.answer.specs.Told.{told};
 ghost use Rattle.sheet.specs.Sheet.{reading, afterReading};
 ghost use Rattle.diagnosis.specs.Answers.{scoring};
 ghost use Rattle.diagnosis.specs.Report.{reporting, afterReporting};
-ghost use Rattle.girderbasil.specs.Host.{toldHost, toldHostScoring, printedFor};
+ghost use Rattle.girderbasil.specs.Host.{toldHost, hostNumbers, toldHostScoring, printedFor};
 
 // Every answer begins with the same three fields, so that a host reads any refusal in one way.
 
@@ -54,7 +54,7 @@ pub struct HostOutput {
 
 // An answer as a host gets it.
 fn host_answer(answer: Answer) -> HostAnswer
-    ensures { λ r. ⌜ toldHost r ≡ told answer ⌝ }
+    ensures { λ r. ⌜ r ≡ hostNumbers (told answer) ⌝ }
 {
     match answer {
         Answer::Count(count) => HostAnswer {
@@ -129,8 +129,8 @@ pub extern "C" fn girderbasil_write_report(table: &[u32], report: &mut [u8]) -> 
     host_answer(diagnosis::report(table, report))
 }
 
-// What the scoring program prints for a sheet: its report, or the line of its refusal alone. Nothing is
-// lent to be filled.
+// What the scoring program prints for a sheet: its report, or the line of its refusal alone. The host
+// lends no storage for it: the bytes are in the answer.
 #[no_mangle]
 pub extern "C" fn girderbasil_diagnose(sheet: &[u8]) -> HostOutput
     ensures { λ r. ⌜ r ≡ printedFor (now (sheet .entry)) ⌝ }

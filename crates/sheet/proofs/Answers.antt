@@ -13,7 +13,7 @@ use Rattle.answer.specs.Told.{Told, told, counted, refusal, accepts, sheet-leng
 use Rattle.answer.specs.First.{first}
 use Rattle.answer.specs.Length.{mostRows, rowsIn, Whole}
 use Rattle.answer.specs.Lists.{over}
-use Rattle.answer.proofs.Refusals.{passed, kept}
+use Rattle.answer.proofs.Refusals.{passed, kept, either-by-number, refused-number}
 use Rattle.answer.proofs.Places.{first-none, before-first}
 use Rattle.answer.proofs.Lengths.{rows-whole, rows-counted, rows-most}
 use Rattle.sheet.specs.Sheet.{refusalAt, misprinted, numbersOf, reading, afterReading, tooLarge, linesOf, writing, afterWriting}
@@ -96,6 +96,23 @@ module _ (table sheet : List ℕ) {rows : ℕ} (so-many : rows ≡ rowsIn 8 (len
       unfolding afterWriting
       writing-accepted h = (counted-writing h, rw (← counted-writing h, ← so-many))
 
+-- An answer is a count just where its number is 0.
+pub reading-by-number : (sheet : List ℕ) (lent : ℕ) → reading sheet lent .counts ≡ eqb (reading sheet lent .number) 0
+unfolding reading refusalAt
+reading-by-number sheet lent =
+    let lines = rowsIn 65 (length sheet) in
+    let at = first (misprinted sheet) (9 * lines) in
+    let last = either-by-number (ltb at (9 * lines)) (refusalAt misprint 9 at) (counted lines) refl refl in
+    either-by-number (eqb lines 0) (refusal sheet-length 0 0) _ refl (either-by-number (ltb lent (8 * lines)) (refusal lent-space-short 0 0) _ refl last)
+
+pub writing-by-number : (table : List ℕ) (lent : ℕ) → writing table lent .counts ≡ eqb (writing table lent .number) 0
+unfolding writing refusalAt
+writing-by-number table lent =
+    let rows = rowsIn 8 (length table) in
+    let at = first (tooLarge table) (length table) in
+    let last = either-by-number (ltb lent (65 * rows)) (refusal lent-space-short 0 0) (counted (65 * rows)) refl refl in
+    either-by-number (eqb rows 0) (refusal sheet-length 0 0) _ refl (either-by-number (ltb at (length table)) (refusalAt out-of-range 8 at) _ refl last)
+
 -- A sheet is accepted just where it can be read into what is lent, and a table just where it can be written into what is lent.
 pub accepted-readable : (sheet : List ℕ) (lent : ℕ) → reading sheet lent .number ≡ 0
     → Readable sheet (rowsIn 65 (length sheet)) × (8 * rowsIn 65 (length sheet) ≤ lent)
@@ -149,9 +166,7 @@ accepted-count sheet table z =
 -- For whoever takes apart what reading answered: a refusal is none of an accepted sheet's, and a count is that sheet's.
 module _ (sheet table : List ℕ) {answer : Answer} (read : told answer ≡ reading sheet (length table)) where
   pub read-refused : {number row column : ℕ} → answer ≡ Refused number row column → accepts (reading sheet (length table)) ≡ false
-  read-refused e =
-      ne-eqb (reading sheet (length table) .number) 0
-      (λ accepted. omega (arith, ap (λ (a : Told). a .count) (sym (ap told e) ∙ read), accepted-count sheet table accepted .0 .lengths .some))
+  read-refused e = refused-number read (reading-by-number sheet (length table)) e
 
   pub read-accepted : {rows : ℕ} → answer ≡ Count rows → reading sheet (length table) ≡ counted rows
   read-accepted e = sym read ∙ ap told e

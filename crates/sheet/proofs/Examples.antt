@@ -1,4 +1,4 @@
--- Examples by computation, a number for each word of the theorems: P1 of document 01 read and written, with more lent than it needs
+-- Examples by computation, so that each word of the theorems is seen with numbers: P1 of document 01 read and written, with more lent than it needs
 -- and with a byte too few; the largest number of a field; the longest sheet; a line of P1's report as document 01 prints it. Then the
 -- theorems of the round trip applied to P1, which meets their premises. Assumes nothing.
 use mathlib.Core.Path.{_≡_, refl, ap}

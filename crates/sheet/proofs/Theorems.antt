@@ -1,10 +1,11 @@
 -- The sheet's theorems on one page, each with its statement in full and a citation for its proof. They are about demand 2 of the
--- customer: "A sheet read and written again is the same sheet; a valid table written and read again is the same table." A table is
+-- customer: a sheet read and written again is the same sheet, and a valid table written and read again is the same table. A table is
 -- valid where the writer accepts it. The words of the statements are defined in specs/Field.antt and specs/Sheet.antt, and in
 -- Told.antt, Length.antt, Text.antt and Houses.antt of crates/answer/specs/. Assumes nothing.
 use mathlib.Core.Path.{_≡_}
 use mathlib.Core.List.{List, _++_}
 use Prim.Native.Nat.{ℕ, _+_, _-_, _*_, _/_, _<_, _≤_}
+use lib.Dec.{eqb}
 use lib.ListN.{length, drop, replicate}
 use Rattle.answer.specs.Told.{counted, refusal, lent-space-short}
 use Rattle.answer.specs.Length.{mostRows}
@@ -50,6 +51,13 @@ longest-sheet = examples.longest-sheet
 pub written-rest : (table sheet : List ℕ) → writing table (length sheet) .number ≡ 0
     → afterWriting table sheet ≡ bytesWritten table sheet ++ drop (length (bytesWritten table sheet)) sheet
 written-rest = round-trip.written-rest
+
+-- What either is told is a count just where the number is 0, so a host can tell by the number.
+pub reading-by-number : (sheet : List ℕ) (lent : ℕ) → reading sheet lent .counts ≡ eqb (reading sheet lent .number) 0
+reading-by-number = answers.reading-by-number
+
+pub writing-by-number : (table : List ℕ) (lent : ℕ) → writing table lent .counts ≡ eqb (writing table lent .number) 0
+writing-by-number = answers.writing-by-number
 
 -- The round trip. A sheet that was read into any table is, when the rows that were read are written again, the same sheet, byte for
 -- byte; the count is its length, and the bytes after it stay.

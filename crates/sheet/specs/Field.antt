@@ -25,7 +25,7 @@ after Misprint character = Misprint
 unfoldable pub field : List ℕ → Field
 field characters = foldl after Blank characters
 
--- Whether they are a field as described, and which number it is.
+-- Whether characters are a field, by what they make; and the field's number.
 unfoldable pub isNumber : Field → Bool
 isNumber Blank = false
 isNumber (Number n) = true
@@ -36,7 +36,7 @@ value Blank = 0
 value (Number n) = n
 value Misprint = 0
 
--- The character that prints a number's digit of the weight 10, 100, ..: a space where the number has no such digit.
+-- The character of a number's digit that counts tens, hundreds and so on, by that weight; a space where the number has no such digit.
 unfoldable pub digitOrSpace : ℕ → ℕ → ℕ
 digitOrSpace weight n = cond (ltb n weight) 32 (48 + n / weight % 10)
 

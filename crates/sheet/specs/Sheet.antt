@@ -12,7 +12,7 @@ use Rattle.answer.specs.Lists.{joined, part, over}
 use Rattle.sheet.specs.Field.{field, isNumber, value}
 use Rattle.sheet.specs.Line.{line}
 
--- The refusal at a place that counts from 0, from the top and from the left, where each row has so many columns.
+-- The refusal at a place. Places count from 0, from the top and from the left, `columns` to a row.
 unfoldable pub refusalAt : ℕ → ℕ → ℕ → Told
 refusalAt number columns at = refusal number (at / columns + 1) (at % columns + 1)
 
@@ -22,13 +22,13 @@ refusalAt number columns at = refusal number (at / columns + 1) (at % columns + 
 unfoldable pub fieldAt : List ℕ → ℕ → ℕ → List ℕ
 fieldAt sheet i j = part 8 j (part 65 i sheet)
 
--- Refusal 2 at a place of nine a line: eight fields, and as ninth column the line's last byte, which is 10.
+-- Whether refusal 2 is due at a place. A line has nine places: its eight fields, and then its last byte, which is to be 10.
 unfoldable pub misprinted : List ℕ → ℕ → Bool
 misprinted sheet place =
     cond (eqb (place % 9) 8) (not (eqb (getD (part 65 (place / 9) sheet) 64 0) 10))
     (not (isNumber (field (fieldAt sheet (place / 9) (place % 9)))))
 
--- So many numbers of a sheet, from its first field on, eight a line.
+-- The first numbers of a sheet, as many as `count`, eight to a line.
 unfoldable pub numbersOf : ℕ → List ℕ → List ℕ
 numbersOf count sheet = joined count (λ place. value (field (fieldAt sheet (place / 8) (place % 8))) ∷ [])
 
@@ -49,7 +49,7 @@ afterReading sheet table =
 
 -- Writing
 
--- So many rows of a table, from its first on, a line a row.
+-- The lines of a table's first rows, as many as `rows`.
 unfoldable pub linesOf : ℕ → List ℕ → List ℕ
 linesOf rows table = joined rows (λ i. line (part 8 i table))
 
@@ -58,7 +58,7 @@ unfoldable pub afterPrinting : List ℕ → List ℕ → List ℕ
 afterPrinting table sheet =
     cond (ltb (length sheet) (65 * (length table / 8))) sheet (over sheet (linesOf (length table / 8) table))
 
--- Refusal 4 at a place of eight a row: a number over 99,999,999.
+-- Whether refusal 4 is due at a place, eight to a row: a number over 99,999,999.
 unfoldable pub tooLarge : List ℕ → ℕ → Bool
 tooLarge table place = ltb 99_999_999 (getD table place 0)
 

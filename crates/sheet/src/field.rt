@@ -4,13 +4,16 @@ ghost use Prim.Native.Nat.{_<_, _≤_};
 ghost use lib.ListN.{length};
 ghost use Rattle.sheet.specs.Field.{value, digitAfter, after, field, digitOrSpace, printed};
 
+// How many characters a field has.
+pub(crate) const FIELD_WIDTH: usize = 8;
+
 // What the characters of a field make so far.
 pub enum Field {
     // Spaces alone.
     Blank,
     // Spaces, then a number.
     Number(u32),
-    // No field.
+    // Characters that are no field.
     Misprint,
 }
 
@@ -50,7 +53,7 @@ fn after(made: Field, character: u8) -> Field
     }
 }
 
-// What eight characters, or fewer, make.
+// What up to eight characters make.
 pub(crate) fn scan(characters: &[u8]) -> Field
     requires { ⌜ length (now characters) ≤ 8 ⌝ }
     ensures { λ r. ⌜ r ≡ field (now (characters .entry)) ⌝ }
@@ -64,7 +67,8 @@ pub(crate) fn scan(characters: &[u8]) -> Field
     made
 }
 
-// The character that prints a number's digit of a weight: a space where it has no such digit.
+// The character of a number's digit that counts tens, hundreds and so on, by that weight; a space where
+// the number has no such digit.
 fn digit_or_space(weight: u32, n: u32) -> u8
     requires { ⌜ 0 < weight ⌝ }
     ensures { λ r. ⌜ r ≡ digitOrSpace weight n ⌝ }

@@ -32,7 +32,7 @@ fn refused(number: u32) -> Answer
     }
 }
 
-// The refusal at a place that counts from 0, row by row of so many columns.
+// The refusal at a place. Places count from 0, from the top and from the left, `columns` to a row.
 fn refused_at(number: u32, at: usize, columns: usize) -> Answer
     requires at { ⌜ at < 9 * mostRows ⌝ }
     requires columns { ⌜ 0 < columns ⌝ }

@@ -1,6 +1,8 @@
 // A sheet read into a lent table.
+use crate::field::FIELD_WIDTH;
 use crate::field::Field;
 use crate::field::scan;
+use crate::line::LAST_BYTE;
 use crate::line::LINE;
 use crate::line::ROW;
 use crate::refused;
@@ -20,10 +22,11 @@ ghost use Rattle.answer.specs.Length.{mostRows, rowsIn};
 ghost use Rattle.answer.specs.Lists.{over};
 ghost use Rattle.sheet.specs.Sheet.{misprinted, numbersOf, reading, afterReading};
 
-// The places of a line that can be misprinted: its fields, then its last byte.
-const PLACES: usize = 9;
+// How many places of a line can be misprinted: its fields, then its last byte.
+const PLACES: usize = ROW + 1;
 
-// Reads one line into the numbers of a row: its first misprinted place from the left, or 9.
+// Reads one line into the numbers of a row. Answers its leftmost misprinted place, from 0, or 9 where
+// there is none.
 fn read_line(line: &[u8], row: &mut [u32]) -> usize
     requires line { ⌜ length (now line) ≡ 65 ⌝ }
     requires row { ⌜ length (now row) ≡ 8 ⌝ }
@@ -32,22 +35,22 @@ fn read_line(line: &[u8], row: &mut [u32]) -> usize
 {
     let mut column = 0;
     while column < ROW {
-        let from = ROW * column;
-        match scan(&line[from..from + ROW]) {
+        let from = FIELD_WIDTH * column;
+        match scan(&line[from..from + FIELD_WIDTH]) {
             Field::Number(n) => row[column] = n,
             Field::Blank => return column,
             Field::Misprint => return column,
         }
         column += 1;
     }
-    if line[64] != b'\n' {
+    if line[LAST_BYTE] != b'\n' {
         return ROW;
     }
     PLACES
 }
 
-// Reads so many lines into a table, down to the first misprint: its place, of nine a line, or the count
-// of places.
+// Reads lines into a table, as far as the first misprint. Answers the misprint's place, counted from 0
+// over nine places to a line, or the count of places where there is none.
 fn read_lines(sheet: &[u8], lines: usize, table: &mut [u32]) -> usize
     requires sheet { ⌜ 65 * lines ≤ length (now sheet) ⌝ }
     requires table { ⌜ 8 * lines ≤ length (now table) ⌝ }
@@ -79,8 +82,9 @@ fn put_numbers(numbers: &[u32], table: &mut [u32])
     }
 }
 
-// Reads so many lines by way of numbers of one's own, since a refusal changes none of the lent table.
-fn read_by(sheet: &[u8], lines: usize, numbers: &mut [u32], table: &mut [u32]) -> Answer
+// Reads all lines into `numbers`, and copies these into the lent table only where every line could be
+// read, since a refusal changes none of the table.
+fn read_whole(sheet: &[u8], lines: usize, numbers: &mut [u32], table: &mut [u32]) -> Answer
     requires lines { ⌜ (lines ≡ rowsIn 65 (length (now sheet))) × (0 < lines) × (8 * lines ≤ length (now table)) ⌝ }
     requires numbers { ⌜ length (now numbers) ≡ 8 * mostRows ⌝ }
     ensures answer { λ r. ⌜ told r ≡ reading (now (sheet .entry)) (length (now (table .entry))) ⌝ }
@@ -109,5 +113,5 @@ pub fn read(sheet: &[u8], table: &mut [u32]) -> Answer
         return refused(LENT_SPACE_SHORT);
     }
     let mut numbers = [0u32; MOST_NUMBERS];
-    read_by(sheet, lines, &mut numbers, table)
+    read_whole(sheet, lines, &mut numbers, table)
 }

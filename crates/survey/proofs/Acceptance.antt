@@ -15,7 +15,7 @@ use Rattle.answer.specs.declared.Answer.the-variants.{Count, Refused}
 use Rattle.answer.specs.Told.{Told, told, counted, refusal, sheet-length, row-out-of-order, mark-on-absent-part}
 use Rattle.answer.specs.First.{first}
 use Rattle.answer.specs.Length.{mostWalls, rowsIn, Whole}
-use Rattle.answer.proofs.Refusals.{passed}
+use Rattle.answer.proofs.Refusals.{passed, refused-number}
 use Rattle.answer.proofs.Places.{before-first, at-first}
 use Rattle.answer.proofs.Lengths.{rows-whole, rows-counted}
 use Rattle.survey.specs.Table.{cell, storeys, endsStorey, firstWall, wallRows, partsRow, rowsDue}
@@ -25,6 +25,7 @@ use Rattle.survey.specs.Acceptance.{Inside, Accepted}
 use Rattle.survey.proofs.Faults.{not-faulty}
 use Rattle.survey.proofs.RowFaults.{ends-right, wall-right, parts-right, row-house, row-storey, row-ends, row-wall, row-parts, row-after}
 use Rattle.survey.proofs.Judging.{judging-accepted}
+use Rattle.survey.proofs.RefusalNumbers.{judging-by-number}
 use Rattle.survey.proofs.FaultlessRows.{Clean, then-clean, test-clean, columns-inside, inside-columns, house-storeys}
 
 -- Every row is without a fault, and the parts row is among them.
@@ -229,9 +230,7 @@ module _ (table : List ℕ) (a : Accepted table) where
 -- The two ways out of judging.
 module _ (table : List ℕ) {answer : Answer} (judged : told answer ≡ judging table) where
   pub judge-refused : {number row column : ℕ} → answer ≡ Refused number row column → (judging table) .number ≡ 0 → ⊥
-  judge-refused e h =
-      let none : _≡_ {A = ℕ} 0 (rowsDue table) = ap (λ (x : Answer). told x .count) (sym e) ∙ ap (λ (x : Told). x .count) (judged ∙ accepted-count table h) in
-      omega arith
+  judge-refused e = eqb-false ((judging table) .number) 0 (refused-number judged (judging-by-number table) e)
 
   pub judge-accepted : {count : ℕ} → answer ≡ Count count → ((judging table) .number ≡ 0) × (count ≡ rowsDue table)
   judge-accepted {count} e =

@@ -1,12 +1,17 @@
--- The numbers that judging tells: none above 8, so it never tells of lent space. Assumes nothing.
+-- The numbers that judging tells: none above 8, so it never tells of lent space; and 0 only where it tells a count. Assumes nothing.
+use mathlib.Core.Path.{_≡_, refl, sym}
 use mathlib.Core.Bool.{Bool, true, false, cond}
 use mathlib.Core.List.{List}
 use Prim.Native.Nat.{ℕ, _+_, _≤_}
+use native.Mathlib.Omega.{arith}
 use lib.Dec.{eqb, ltb, lit≤}
 use lib.ListN.{length}
-use Rattle.answer.specs.Told.{counted, refusal, sheet-length, row-out-of-order, no-parts}
+use borrow.Author.Tests.{ltb-true, ne-eqb}
+use Rattle.answer.specs.Told.{Told, counted, refusal, sheet-length, row-out-of-order, no-parts}
 use Rattle.answer.specs.First.{first}
 use Rattle.answer.specs.Length.{rowsIn}
+use Rattle.answer.proofs.Refusals.{ByNumber, either-by-number}
+use Rattle.answer.proofs.Places.{at-first}
 use Rattle.survey.specs.declared.fault.Fault.{Fault}
 use Rattle.survey.specs.Table.{rowsDue}
 use Rattle.survey.specs.Judgement.{fault, faulty, _then_, test, wrongColumn, houseFault, storeyFault, endsFault, wallFault, partsFault, rowFault, judging}
@@ -40,21 +45,39 @@ row-known : (table : List ℕ) (row : ℕ) → Known (rowFault table row)
 unfolding rowFault houseFault storeyFault endsFault wallFault partsFault
 row-known table row = search (either, then-known, test-known, columns-known, fault-known, lit≤) depth 12
 
-pub judging-known : (table : List ℕ) → judging table .number ≤ no-parts
-unfolding judging
-judging-known table = go (eqb rows 0) (ltb row rows) (ltb rows (rowsDue table)) (row-known table row)
-  where
-    rows : ℕ
-    rows = rowsIn 8 (length table)
+module _ (table : List ℕ) where
+  abbrev rows : ℕ
+  rows = rowsIn 8 (length table)
 
-    row : ℕ
-    row = first (λ i. faulty (rowFault table i)) rows
+  -- The first row with a fault, and its refusal.
+  abbrev row : ℕ
+  row = first (λ i. faulty (rowFault table i)) rows
 
-    go : (a b c : Bool) → Known (rowFault table row)
-        → cond a (refusal sheet-length 0 0)
-        (cond b (refusal (rowFault table row .number) (row + 1) (rowFault table row .column))
-        (cond c (refusal row-out-of-order (rows + 1) 1) (counted rows))) .number ≤ no-parts
-    go true b c fine = lit≤ tt
-    go false true c fine = fine .known
-    go false false true fine = lit≤ tt
-    go false false false fine = lit≤ tt
+  abbrev refused : Told
+  refused = refusal (rowFault table row .number) (row + 1) (rowFault table row .column)
+
+  -- What judging tells where no row has a fault.
+  abbrev faultless : Told
+  faultless = cond (ltb rows (rowsDue table)) (refusal row-out-of-order (rows + 1) 1) (counted rows)
+
+  pub judging-known : judging table .number ≤ no-parts
+  unfolding judging
+  judging-known = go (eqb rows 0) (ltb row rows) (ltb rows (rowsDue table)) (row-known table row)
+    where
+      go : (a b c : Bool) → Known (rowFault table row)
+          → cond a (refusal sheet-length 0 0) (cond b refused (cond c (refusal row-out-of-order (rows + 1) 1) (counted rows))) .number ≤ no-parts
+      go true b c fine = lit≤ tt
+      go false true c fine = fine .known
+      go false false true fine = lit≤ tt
+      go false false false fine = lit≤ tt
+
+  -- What is told is a count just where the number is 0: a fault's is not.
+  pub judging-by-number : judging table .counts ≡ eqb (judging table .number) 0
+  unfolding judging
+  judging-by-number = either-by-number (eqb rows 0) (refusal sheet-length 0 0) _ refl (go (ltb row rows) refl)
+    where
+      go : (b : Bool) → ltb row rows ≡ b → ByNumber (cond b refused faultless)
+      go true e =
+          let fault-is = ltb-true 0 (rowFault table row .number) (at-first (λ i. faulty (rowFault table i)) rows (ltb-true row rows e)) in
+          sym (ne-eqb (rowFault table row .number) 0 (λ none. omega (arith, fault-is, none)))
+      go false e = either-by-number (ltb rows (rowsDue table)) (refusal row-out-of-order (rows + 1) 1) (counted rows) refl refl

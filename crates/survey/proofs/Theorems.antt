@@ -3,6 +3,7 @@
 use mathlib.Core.Path.{_≡_}
 use mathlib.Core.List.{List, [], _∷_, map}
 use Prim.Native.Nat.{ℕ, _<_, _≤_}
+use lib.Dec.{eqb}
 use lib.ListN.{set}
 use Rattle.answer.specs.Told.{counted, refusal, no-parts}
 use Rattle.answer.specs.Houses.{p1, twoStoreys}
@@ -33,11 +34,15 @@ accepted-count table h = acceptance.accepted-count table h
 pub judging-known : (table : List ℕ) → judging table .number ≤ no-parts
 judging-known table = refusal-numbers.judging-known table
 
+-- What judging tells is a count just where the number is 0, so a host can tell by the number.
+pub judging-by-number : (table : List ℕ) → judging table .counts ≡ eqb (judging table .number) 0
+judging-by-number table = refusal-numbers.judging-by-number table
+
 -- A storey's walls. Of an accepted table the first unbroken run of a storey's wall rows is all of its walls.
 pub run-is-walls : (table : List ℕ) → judging table .number ≡ 0 → (storey : ℕ) → storeyRun table storey ≡ storeyWalls table storey
 run-is-walls table h storey = storey-walls.run-is-walls table h storey
 
--- "Empty where scoring refuses the table or the house lacks the storey".
+-- The part "is empty where scoring refuses the table or the house lacks the storey".
 pub walls-refused : (table : List ℕ) (storey : ℕ) → (judging table .number ≡ 0 → ⊥) → storeyWalls table storey ≡ []
 walls-refused table storey refused = storey-walls.walls-refused table storey refused
 
@@ -56,7 +61,7 @@ pub p1-judged : judging p1 ≡ counted 11
 p1-judged = examples.p1-judged
 
 -- and refused with a number changed, or two: a storey's row of kind 4; zone 95; ends 0.01 m² larger than their storey; a mark on a part that
--- is absent; no part present. (The 301st wall is run by the program `surveys`.)
+-- is absent; no part present. (The 301st wall is run by the program `run_surveys`.)
 pub refusals-told : map judging (set p1 8 4 ∷ set p1 3 95 ∷ set p1 19 3001 ∷ set p1 81 8183 ∷ set (set p1 81 0) 82 0 ∷ [])
     ≡ refusal 3 2 1 ∷ refusal 4 1 4 ∷ refusal 6 3 4 ∷ refusal 7 11 3 ∷ refusal 8 11 2 ∷ []
 refusals-told = examples.refusals-told

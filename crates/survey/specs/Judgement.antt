@@ -23,12 +23,12 @@ none = fault 0 0
 abbrev pub faulty : Fault → Bool
 faulty f = ltb 0 (f .number)
 
--- The first fault of two tests, in their order.
+-- Two tests, one after the other: the fault of the first that finds one.
 infixr 40 _then_
 unfoldable pub _then_ : Fault → Fault → Fault
 f then g = cond (faulty f) f g
 
--- A test that finds a fault where something holds.
+-- A test: it finds the fault where the condition holds, and else none.
 unfoldable pub test : Bool → Fault → Fault
 test holds f = cond holds f none
 
@@ -73,7 +73,7 @@ wallFault table row =
     then columnsFault 1 (wallColumns table row) table row
     then test (leb (firstWall table + mostWalls) row) (fault too-many-walls 1)
 
--- Every item of a set is one of another: "item 1 is worth 1, each next item twice the one before".
+-- Whether every item of a set is one of another: "item 1 is worth 1, each next item twice the one before".
 unfoldable pub within : ℕ → ℕ → Bool
 within set other = eqb (bitAnd set other) set
 
@@ -84,7 +84,7 @@ partsFault table row =
     then test (not (within (cell table row 2) (cell table row 1))) (fault mark-on-absent-part 3)
     then test (eqb (cell table row 1) 0) (fault no-parts 2)
 
--- A row by the place where it stands, where the rows before it have no fault. After the parts row no row is due.
+-- The fault of a row, by where it stands, if no row before it has a fault. After the parts row no row is due.
 unfoldable pub rowFault : List ℕ → ℕ → Fault
 rowFault table row =
     cond (eqb row 0) (houseFault table)

@@ -1,6 +1,5 @@
 -- The definitions that the survey's promises and theorems cite, in document 01's order: where rows stand, what their columns may hold,
--- which refusal is due, what an accepted table is made of, a storey's walls;
--- and the walls of the examples.
+-- which refusal is due, what an accepted table is made of, a storey's walls; and the walls of the examples.
 pub mod Table
 pub mod Ranges
 pub mod Judgement

@@ -1,4 +1,4 @@
--- What a row's columns may hold. Document 01, "The sheet and the table": each kind of row is a list, a line a column; the first is its kind.
+-- What a row's columns may hold. Document 01, "The sheet and the table". Each kind of row is a list with a line for each column, the kind first.
 use Prim.Native.Nat.{ℕ}
 use mathlib.Core.Bool.{Bool, cond, _||_}
 use mathlib.Core.List.{List, [], _∷_, map}

@@ -11,15 +11,15 @@ use Rattle.answer.specs.First.{first}
 abbrev pub cell : List ℕ → ℕ → ℕ → ℕ
 cell table row column = getD table (8 * row + column) 0
 
--- How many storeys the house row says.
+-- How many storeys the house has, by its row.
 abbrev pub storeys : List ℕ → ℕ
 storeys table = cell table 0 1
 
--- The house is row 0, and the storey of each number the row of that number. The ends follow, two rows a storey.
+-- The house is row 0, storey 1 is row 1, and so on. The ends follow, two rows to a storey; the first of them:
 abbrev pub firstEnds : List ℕ → ℕ
 firstEnds table = storeys table + 1
 
--- The row of a storey's ends in a direction, both numbered from 1; and the storey and the direction that are due in a row of ends.
+-- The row of the ends of a storey and direction, both from 1; and the storey and the direction that are due in a row of ends.
 abbrev pub endsRow : List ℕ → ℕ → ℕ → ℕ
 endsRow table storey direction = firstEnds table + 2 * (storey - 1) + (direction - 1)
 
@@ -29,7 +29,7 @@ endsStorey table row = (row - firstEnds table) / 2 + 1
 abbrev pub endsDirection : List ℕ → ℕ → ℕ
 endsDirection table row = (row - firstEnds table) % 2 + 1
 
--- The walls follow: as many rows as are of kind 4, one after the other.
+-- The walls follow: the rows of kind 4 from there on, down to the first row that is of another kind.
 abbrev pub firstWall : List ℕ → ℕ
 firstWall table = 3 * storeys table + 1
 
@@ -43,6 +43,6 @@ wallRows table = first (λ k. not (isWall table (firstWall table + k))) (length 
 abbrev pub partsRow : List ℕ → ℕ
 partsRow table = firstWall table + wallRows table
 
--- The rows of a whole table: the parts row is the last.
+-- How many rows a whole table has: the parts row is the last.
 abbrev pub rowsDue : List ℕ → ℕ
 rowsDue table = partsRow table + 1

@@ -10,11 +10,11 @@ use Rattle.answer.specs.First.{first}
 use Rattle.survey.specs.Table.{cell, isWall}
 use Rattle.survey.specs.Judgement.{judging}
 
--- So many rows of a table, from a row on.
+-- The rows of a table from a row on, as many as `count`.
 unfoldable pub rowsFrom : List ℕ → ℕ → ℕ → List ℕ
 rowsFrom table row count = take (8 * count) (drop (8 * row) table)
 
--- Those of a table's first rows, so many, at which a test holds, in their order.
+-- Of a table's first rows, in their order, those at which a test holds.
 unfoldable pub rowsWhere : (ℕ → Bool) → List ℕ → ℕ → List ℕ
 rowsWhere test table zero = []
 rowsWhere test table (suc n) = rowsWhere test table n ++ cond (test n) (rowsFrom table n 1) []

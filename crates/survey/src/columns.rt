@@ -1,6 +1,6 @@
 // The columns of a table's rows, from 0, by the words of document 01, "The sheet and the table".
 
-// Every row's: its kind, and in all rows but the house's and the parts' its storey.
+// In every row its kind; in every row but the house's and the parts' its storey.
 pub const KIND: usize = 0;
 
 pub const STOREY: usize = 1;
@@ -27,12 +27,12 @@ pub const FLOOR_TYPE: usize = 4;
 
 pub const VOID: usize = 5;
 
-// An ends row, those of end a; end b's follow each:
+// A row of ends. These are the columns of end a; end b's column is the next one each time:
 pub const END_AREA: usize = 3;
 
 pub const PART_STOREYS: usize = 5;
 
-// A wall's row, and its direction an ends row's too:
+// A wall's row. The direction is also a column of a row of ends:
 pub const DIRECTION: usize = 2;
 
 pub const PLACE: usize = 3;

@@ -1,4 +1,4 @@
-// A row's fault, and its numbers against the ranges of its columns.
+// A row's fault; whether a row's numbers lie in the ranges of its columns.
 use answer::OUT_OF_RANGE;
 use answer::ROW;
 use answer::ROW_OUT_OF_ORDER;

@@ -2,13 +2,13 @@
 use crate::columns::STOREYS;
 use crate::fault::Fault;
 use crate::fault::fault_at;
+use crate::places::parts_row;
 use crate::rows::ends_fault;
 use crate::rows::house_fault;
 use crate::rows::parts_fault;
 use crate::rows::storey_fault;
 use crate::rows::wall_fault;
 use crate::table::cell;
-use crate::table::is_wall;
 use answer::Answer;
 use answer::ROW;
 use answer::ROW_OUT_OF_ORDER;
@@ -19,24 +19,8 @@ ghost use Prim.Native.Nat.{_<_, _≤_, _+_, _*_};
 ghost use lib.ListN.{length};
 ghost use Rattle.answer.specs.Told.{told, refusal};
 ghost use Rattle.answer.specs.Length.{mostRows};
-ghost use Rattle.survey.specs.Table.{cell, firstWall, partsRow};
+ghost use Rattle.survey.specs.Table.{cell, partsRow};
 ghost use Rattle.survey.specs.Judgement.{rowFault, judging};
-
-// The row after the walls, where the parts are due. `first` is the first wall's row.
-fn parts_row(table: &[u32], rows: usize, first: usize) -> usize
-    requires rows { ⌜ (8 * rows ≡ length (now table)) × (0 < rows) ⌝ }
-    requires first { ⌜ (first ≡ firstWall (now table)) × (first ≤ 10) ⌝ }
-    ensures { λ r. ⌜ r ≡ partsRow (now (table .entry)) ⌝ }
-{
-    let mut walls = 0;
-    while first + walls < rows {
-        if !is_wall(table, first + walls) {
-            return first + walls;
-        }
-        walls += 1;
-    }
-    first + walls
-}
 
 // The fault of a row after the house's, by the place where it stands.
 fn row_fault(table: &[u32], storeys: usize, parts: usize, row: usize) -> Fault
@@ -89,7 +73,7 @@ pub fn judge(table: &[u32]) -> Answer
         return refused(house, 0);
     }
     let storeys = cell(table, 0, STOREYS) as usize;
-    let parts = parts_row(table, rows, 3 * storeys + 1);
+    let parts = parts_row(table);
     let mut row = 1;
     while row < rows {
         let found = row_fault(table, storeys, parts, row);
@@ -101,5 +85,6 @@ pub fn judge(table: &[u32]) -> Answer
     if rows <= parts {
         return refused(fault_at(ROW_OUT_OF_ORDER, 1), rows);
     }
-    Answer::Count(rows as u32)
+    let count = rows as u32;
+    Answer::Count(count)
 }

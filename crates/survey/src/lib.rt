@@ -1,4 +1,5 @@
-// A table's rows: which refusal a table gets, if any, and a storey's walls as a part of it.
+// A table's rows: which refusal a table gets, if any, where its parts row stands, and a storey's walls as
+// a part of it.
 //
 // Uses `answer` alone. Document 01, "The sheet and the table" and "What a refused sheet is told"; the
 // definitions stand in specs/Table.antt, Ranges.antt, Judgement.antt, Acceptance.antt and Walls.antt, in
@@ -6,11 +7,13 @@
 pub mod columns;
 mod fault;
 mod judgement;
+mod places;
 mod rows;
 mod table;
 mod walls;
 
 pub use judgement::judge;
+pub use places::parts_row;
 pub use table::cell;
 pub use walls::storey_run;
 pub use walls::storey_walls;

@@ -25,7 +25,7 @@ ghost use Rattle.survey.specs.Table.{cell, firstWall};
 ghost use Rattle.survey.specs.Ranges.{zone, isOpening, wallColumns};
 ghost use Rattle.survey.specs.Judgement.{columnsFault, houseFault, storeyFault, endsFault, storeyBefore, wallFault, partsFault};
 
-// The zone that a number is; 100 where it is none.
+// The zone of that number; 100 where no zone has it.
 fn zone(number: u32) -> u32
     ensures { λ r. ⌜ r ≡ zone number ⌝ }
 {
@@ -56,7 +56,7 @@ pub(crate) fn house_fault(table: &[u32]) -> Fault
     )
 }
 
-// A storey's row, which is the row of its number.
+// A storey's row. Counted from 0, it is the row of the storey's number.
 pub(crate) fn storey_fault(table: &[u32], row: usize) -> Fault
     requires row { ⌜ row ≤ 3 ⌝ }
     requires place { ⌜ 8 * row + 8 ≤ length (now table) ⌝ }
@@ -72,7 +72,7 @@ pub(crate) fn storey_fault(table: &[u32], row: usize) -> Fault
     )
 }
 
-// A number in a type where the sum of two fits.
+// A number in a type in which the sum of two such numbers fits.
 fn wide(number: u32) -> usize
     ensures { λ r. ⌜ r ≡ number ⌝ }
 {

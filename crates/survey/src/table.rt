@@ -19,8 +19,9 @@ fn any_cell(table: &[u32], row: usize, column: usize) -> u32
 }
 
 // The number in a row and a column, both from 0; 0 beyond the table. Any table, row and column will do,
-// so that no caller has to show that a place lies in the table. A column of a whole row is read first:
-// in a loop over rows, and for a column with a name, the compiler then sees that both tests hold.
+// so that no caller has to show that a place lies in the table. The common case comes first, a column of
+// a whole row: where a loop goes over the rows and the column is a constant, the compiler sees that both
+// tests hold and leaves them out.
 pub fn cell(table: &[u32], row: usize, column: usize) -> u32
     ensures { λ r. ⌜ r ≡ cell (now (table .entry)) row column ⌝ }
 {
@@ -32,7 +33,7 @@ pub fn cell(table: &[u32], row: usize, column: usize) -> u32
     any_cell(table, row, column)
 }
 
-// Whether a row is a wall's.
+// Whether a row is a wall row.
 pub(crate) fn is_wall(table: &[u32], row: usize) -> bool
     ensures { λ r. ⌜ r ≡ isWall (now (table .entry)) row ⌝ }
 {

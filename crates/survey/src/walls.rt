@@ -51,8 +51,8 @@ fn run_length(table: &[u32], storey: u32, start: usize) -> usize
     count
 }
 
-// The first unbroken run of a storey's wall rows in any table. Of a table that is accepted these are
-// all its walls of that storey: for whoever has judged it already.
+// The first unbroken run of a storey's wall rows, in any table. In a table that is accepted these are all
+// walls of the storey, so a caller that has judged the table already need not have it judged again.
 pub fn storey_run(table: &[u32], storey: u32) -> &[u32]
     ensures { λ r. ⌜ now r ≡ storeyRun (now (table .entry)) storey ⌝ }
 {

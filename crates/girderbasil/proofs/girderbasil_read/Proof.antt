@@ -1,6 +1,7 @@
 -- `girderbasil::girderbasil_read` meets its contract: it is what reading answers. Assumes nothing.
-use mathlib.Core.Path.{_∙_}
 use borrow.Author.Needs.{needs}
+use Rattle.sheet.proofs.Answers.{reading-by-number}
+use Rattle.girderbasil.proofs.HostAnswers.{answer-crosses}
 use Rattle.girderbasil.proofs.girderbasil_read.Statement.{statement}
 use Rattle.girderbasil.proofs.girderbasil_read.Tie as tie
 
@@ -14,7 +15,9 @@ same-length : tie.Need-same-length
 same-length c = search needs
 
 returns : tie.Need-returns
-returns c = (c .host-answer .ensures ∙ c .before .before .before .read .ensures .0, c .before .before .before .read .ensures .1)
+returns c =
+    let read = c .before .before .before .read .ensures in
+    (answer-crosses (c .host-answer .ensures) (read .0) (reading-by-number _ _), read .1)
 
 pub girderbasil-read-spec : {M : Type 1} → statement M
 girderbasil-read-spec = tie.close (tie.spec read-requires host-answer-requires same-length returns)

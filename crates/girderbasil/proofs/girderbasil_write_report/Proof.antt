@@ -1,6 +1,7 @@
 -- `girderbasil::girderbasil_write_report` meets its contract: it is what the report answers. Assumes nothing.
-use mathlib.Core.Path.{_∙_}
 use borrow.Author.Needs.{needs}
+use Rattle.diagnosis.proofs.Reporting.{reporting-by-number}
+use Rattle.girderbasil.proofs.HostAnswers.{answer-crosses}
 use Rattle.girderbasil.proofs.girderbasil_write_report.Statement.{statement}
 use Rattle.girderbasil.proofs.girderbasil_write_report.Tie as tie
 
@@ -14,7 +15,9 @@ same-length : tie.Need-same-length
 same-length c = search needs
 
 returns : tie.Need-returns
-returns c = (c .host-answer .ensures ∙ c .before .before .before .report .ensures .0, c .before .before .before .report .ensures .1)
+returns c =
+    let written = c .before .before .before .report .ensures in
+    (answer-crosses (c .host-answer .ensures) (written .0) (reporting-by-number _ _), written .1)
 
 pub girderbasil-write-report-spec : {M : Type 1} → statement M
 girderbasil-write-report-spec =

@@ -36,11 +36,11 @@ returns-2 c =
     let case = reading-short _ _ (at-if1 .before .rows-in .ensures) (at-if1 .if1 .left) (c .before .if2 .taken) in
     (c .refused2 .ensures ∙ case .0, case .1)
 
-slice-aggregate-read-by : tie.Need-slice-aggregate-read-by
-slice-aggregate-read-by c = search needs
+slice-aggregate-read-whole : tie.Need-slice-aggregate-read-whole
+slice-aggregate-read-whole c = search needs
 
-read-by-requires : tie.Need-read-by-requires
-read-by-requires c κs = search needs
+read-whole-requires : tie.Need-read-whole-requires
+read-whole-requires c κs = search needs
 
 same-length : tie.Need-same-length
 same-length c = search needs
@@ -58,7 +58,7 @@ read-spec =
     mul-if2
     refused-requires-2
     returns-2
-    slice-aggregate-read-by
-    read-by-requires
+    slice-aggregate-read-whole
+    read-whole-requires
     same-length
     returns-3)

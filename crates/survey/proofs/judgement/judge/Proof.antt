@@ -55,18 +55,8 @@ cell-requires c κs = search needs
 cast-storeys : tie.Need-cast-storeys Inv-loop μ-loop
 cast-storeys c = search needs
 
-mul-parts-row : tie.Need-mul-parts-row Inv-loop μ-loop
-mul-parts-row c = search needs
-
-add-parts-row : tie.Need-add-parts-row Inv-loop μ-loop
-add-parts-row c = search needs
-
 parts-row-requires : tie.Need-parts-row-requires Inv-loop μ-loop
-parts-row-requires c κs =
-    let at-if1 = c .before .before .before .before in
-    let size = whole at-if1 in
-    let house = house-storeys _ (clean-house (c .before)) in
-    ((size .whole, size .some), (ap (λ (n : ℕ). 3 * n + 1) (c .cell .ensures), omega (arith, house, c .cell .ensures)))
+parts-row-requires c κs = search needs
 
 loop-holds : tie.Need-loop-holds Inv-loop μ-loop
 loop-holds c =
@@ -122,8 +112,8 @@ returns-4 c =
     c .refused3 .ensures ∙ judging-short _ (at-if1 .before .rows-in .ensures) (at-if1 .if1 .left) (clean at-end)
     (rw (← at-parts .parts-row .ensures) (omega (arith, c .before .before .if4 .taken))) (c .before .fault-at .ensures)
 
-cast-t10 : tie.Need-cast-t10 Inv-loop μ-loop
-cast-t10 c = omega (arith, whole (c .before .before .before .before .before .before .before .before))
+cast-count : tie.Need-cast-count Inv-loop μ-loop
+cast-count c = omega (arith, whole (c .before .before .before .before .before .before .before .before))
 
 returns-5 : tie.Need-returns-5 Inv-loop μ-loop
 returns-5 c =
@@ -145,8 +135,6 @@ judge-spec =
     returns-2
     cell-requires
     cast-storeys
-    mul-parts-row
-    add-parts-row
     parts-row-requires
     loop-holds
     row-fault-requires
@@ -158,5 +146,5 @@ judge-spec =
     fault-at-requires
     refused-requires-3
     returns-4
-    cast-t10
+    cast-count
     returns-5)

@@ -1,0 +1,19 @@
+// Where a table's rows stand.
+use crate::columns::STOREYS;
+use crate::table::cell;
+use crate::table::is_wall;
+ghost use mathlib.Core.Path.{_≡_};
+ghost use Rattle.survey.specs.Table.{partsRow};
+
+// The row after the walls, from 0, where the parts are due. Any table will do: where rows are missing,
+// it lies beyond the table.
+pub fn parts_row(table: &[u32]) -> usize
+    ensures { λ r. ⌜ r ≡ partsRow (now (table .entry)) ⌝ }
+{
+    let first = 3 * (cell(table, 0, STOREYS) as usize) + 1;
+    let mut walls = 0;
+    while is_wall(table, first + walls) {
+        walls += 1;
+    }
+    first + walls
+}
