@@ -1,10 +1,9 @@
 -- Where the rows of an accepted table stand, and the ranges that its numbers have, as the code needs them. Assumes nothing.
 use mathlib.Core.Path.{_≡_}
 use mathlib.Core.List.{List}
-use Prim.Native.Nat.{ℕ, _-_, _/_, _≤_}
+use Prim.Native.Nat.{ℕ, _≤_}
 use native.Mathlib.Omega.{arith}
-use lib.ListN.{length}
-use Rattle.survey.specs.Table.{storeys, partsRow}
+use Rattle.survey.specs.Table.{storeys}
 use Rattle.survey.specs.Judgement.{judging}
 use Rattle.survey.specs.Acceptance.{Accepted}
 use Rattle.survey.proofs.Acceptance.{accepted, accepted-zone}
@@ -23,10 +22,6 @@ module _ (table : List ℕ) (h : judging table .number ≡ 0) where
 
   pub stands : Stands table
   stands = record { accepted = h; some = storeys-few .0; few = storeys-few .1; long = omega (arith, a .sizes); zoned = accepted-zone a .1 }
-
-  -- The parts row is the last.
-  pub parts-last : length table / 8 - 1 ≡ partsRow table
-  parts-last = omega (arith, a .sizes)
 
   -- No storey needs more than `method` computes a score with.
   pub required-within : {storey : ℕ} → 1 ≤ storey → storey ≤ storeys table → required table storey ≤ mostRequired

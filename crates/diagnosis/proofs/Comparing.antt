@@ -23,7 +23,7 @@ use Rattle.method.specs.Deterioration.{_at-most_}
 use Rattle.method.proofs.Requirements.{narrow-least, required-rises, required-positive}
 use Rattle.method.proofs.Fractions.{deterioration-falls}
 use Rattle.method.proofs.Comparisons.{score-before-falls, full-score-falls, verdict-rises}
-use Rattle.diagnosis.specs.Rows.{houseOf, foundation, storeyOf, storeyPart, endA, endB, endPart, present, marked, itemsOf}
+use Rattle.diagnosis.specs.Rows.{houseOf, foundation, storeyOf, storeyPart, endA, endB, present, marked, itemsOf}
 use Rattle.diagnosis.specs.House.{InHouse, share, held, endHeld, narrow, requiredOf, required, endRequired, endStrengths, endBand, higherBand, storeyFloorType, layout, deterioration, strengthsWith, scoreBefore, scoreWith, fullScore, scores, leastScore, houseVerdict}
 use Rattle.diagnosis.specs.Answers.{recordOf}
 use Rattle.diagnosis.specs.Comparison.{houseMayDiffer, partsMayDiffer, mayDiffer, SameOrWorse, BandKept, NoBetter}

@@ -7,7 +7,7 @@ use native.Mathlib.Nat.{le-refl}
 use native.Mathlib.Omega.{arith}
 use lib.Dec.{T, eqb, ltb, lit≤}
 use lib.ListN.{length, take, replicate}
-use borrow.Author.Tests.{eq-eqb, ne-eqb, lt-ltb, le-ltb, eqb-true, eqb-false, ltb-true, ltb-false}
+use borrow.Author.Tests.{ne-eqb, eqb-true, eqb-false, ltb-true, ltb-false}
 use Rattle.answer.specs.declared.Answer.{Answer}
 use Rattle.answer.specs.declared.Answer.the-variants.{Count, Refused}
 use Rattle.answer.specs.Told.{Told, told, counted, refusal, accepts, lent-space-short}
@@ -25,33 +25,13 @@ use Rattle.diagnosis.specs.Program.{mostNumbers, tableOf, diagnosing, af
 use Rattle.diagnosis.specs.Report.{reportRows, reportLines, reportBytes, reporting, afterReporting, refusalRow, refusalLine}
 use Rattle.diagnosis.proofs.AcceptedTables.{storeys-few}
 
--- An answer to writing a table's report into lent bytes, and these afterwards.
-abbrev Reported : List ℕ → List ℕ → Told → List ℕ → Type 0
-Reported table lent answer after = (answer ≡ reporting table (length lent)) × (after ≡ afterReporting table lent)
-
-module _ (table lent : List ℕ) where
-  module _ (h : judging table .number ≡ 0) where
-    pub report-short : length lent < 65 * reportLines table → Reported table lent (refusal lent-space-short 0 0) lent
-    unfolding reporting afterReporting
-    report-short short =
-        let judged = eq-eqb (judging table .number) 0 h in
-        let less = lt-ltb (length lent) (65 * reportLines table) short in
-        (rw (judged, less), rw (judged, less))
-
-    pub report-written : 65 * reportLines table ≤ length lent → Reported table lent (counted (65 * reportLines table)) (over lent (reportBytes table))
-    unfolding reporting afterReporting
-    report-written room =
-        let judged = eq-eqb (judging table .number) 0 h in
-        let enough = le-ltb (length lent) (65 * reportLines table) room in
-        (rw (judged, enough), rw (judged, enough))
-
-  -- A table that is refused.
-  pub report-refused : (answer : Answer) {number row column : ℕ} → told answer ≡ judging table → answer ≡ Refused number row column
-      → Reported table lent (told answer) lent
-  unfolding reporting afterReporting
-  report-refused answer judged e =
-      let refused = ne-eqb (judging table .number) 0 (judge-refused table judged e) in
-      (rw refused judged, rw (refused, refused))
+-- Writing the report of a table that is refused: the answer, and the lent bytes afterwards.
+pub report-refused : (table lent : List ℕ) (answer : Answer) {number row column : ℕ} → told answer ≡ judging table → answer ≡ Refused number row column
+    → (told answer ≡ reporting table (length lent)) × (lent ≡ afterReporting table lent)
+unfolding reporting afterReporting
+report-refused table lent answer judged e =
+    let refused = ne-eqb (judging table .number) 0 (judge-refused table judged e) in
+    (rw refused judged, rw (refused, refused))
 
 -- An answer to diagnosing a sheet into lent bytes, and these afterwards.
 abbrev Diagnosed : List ℕ → List ℕ → Told → List ℕ → Type 0

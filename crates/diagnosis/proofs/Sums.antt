@@ -1,5 +1,5 @@
 -- What a storey's walls hold, wall by wall: with one wall more, and at most. Assumes nothing.
-use mathlib.Core.Path.{_≡_, refl, ap, _∙_}
+use mathlib.Core.Path.{_≡_, ap}
 use mathlib.Core.Bool.{Bool, true, false, cond}
 use mathlib.Core.List.{List}
 use Prim.Native.Nat.{ℕ, _+_, _-_, _*_, _/_, _<_, _≤_}
@@ -11,7 +11,7 @@ use Rattle.answer.specs.Length.{mostWalls}
 use Rattle.answer.proofs.Parts.{lent-part, part-element}
 use Rattle.survey.specs.Table.{cell}
 use Rattle.survey.specs.Judgement.{judging}
-use Rattle.survey.specs.Walls.{rowsFrom, storeyWalls}
+use Rattle.survey.specs.Walls.{storeyWalls}
 use Rattle.survey.specs.Acceptance.{Accepted}
 use Rattle.survey.proofs.Acceptance.{accepted}
 use Rattle.survey.proofs.StoreyWalls.{Shown, shown, rows-cell, rows-length}

@@ -9,7 +9,7 @@ use Rattle.answer.specs.Told.{Told, counted, refusal, lent-space-short}
 use Rattle.answer.specs.Length.{mostWalls}
 use Rattle.answer.specs.Lists.{joined, over}
 use Rattle.sheet.specs.Sheet.{linesOf}
-use Rattle.survey.specs.Table.{cell, storeys}
+use Rattle.survey.specs.Table.{storeys}
 use Rattle.survey.specs.Judgement.{judging}
 use Rattle.method.specs.declared.rows.House.{House}
 use Rattle.method.specs.Held.{heldStrength, mostHeld}

@@ -47,7 +47,6 @@ pub struct HouseAssessment {
 
 // The house's deterioration factor.
 fn deterioration(table: &[u32]) -> Fraction
-    requires { ⌜ Stands (now table) ⌝ }
     ensures { λ r. ⌜ r ≡ deterioration (now (table .entry)) ⌝ }
 {
     deterioration_factor(items_of(table), cell(table, 0, AGE))

@@ -1,6 +1,5 @@
 // What the rows of a table say, each by value, as `method` takes it. A row's struct is filled here and
 // nowhere else.
-use answer::ROW;
 use method::House;
 use method::HousePart;
 use method::Items;
@@ -24,6 +23,7 @@ use survey::columns::VOID;
 use survey::columns::WALL_TYPE;
 use survey::columns::WEIGHT;
 use survey::columns::ZONE;
+use survey::parts_row;
 ghost use mathlib.Core.Path.{_≡_};
 ghost use Prim.Native.Nat.{_≤_};
 ghost use Rattle.diagnosis.specs.Rows.{storeyOf, storeyPart, endPart, wallOf, itemsOf};
@@ -103,12 +103,11 @@ pub(crate) fn wall_of(wall: &[u32]) -> Wall
     }
 }
 
-// The parts row of an accepted table.
+// The parts row.
 pub(crate) fn items_of(table: &[u32]) -> Items
-    requires { ⌜ Stands (now table) ⌝ }
     ensures { λ r. ⌜ r ≡ itemsOf (now (table .entry)) ⌝ }
 {
-    let parts = table.len() / ROW - 1;
+    let parts = parts_row(table);
     Items {
         present: cell(table, parts, PRESENT),
         marked: cell(table, parts, MARKED),

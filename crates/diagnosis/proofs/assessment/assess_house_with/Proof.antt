@@ -1,12 +1,11 @@
 -- `diagnosis::assessment::assess_house_with` meets its contract. The loop's invariant: the places before this one are filled, and `least` is the
 -- least of their scores. Assumes nothing.
-use mathlib.Core.Path.{_≡_, refl, ap, _∙_}
+use mathlib.Core.Path.{_≡_, refl, _∙_}
 use Prim.Native.Nat.{_<_, _≤_, _-_, _*_}
 use native.Mathlib.Omega.{arith}
 use denote.Ref.{now}
 use Rattle.answer.specs.Lists.{joined}
 use Rattle.survey.specs.Table.{storeys}
-use Rattle.diagnosis.specs.declared.assessment.Assessment.{Assessment}
 use Rattle.diagnosis.specs.House.{leastOf}
 use Rattle.diagnosis.specs.Internal.{six, noAssessment, allHeld, assessmentAt, scoresBelow, houseAssessmentWith}
 use Rattle.diagnosis.proofs.SixPlaces.{six-none, six-more}
@@ -79,7 +78,7 @@ loop-again c =
       inv .0,
       search needs,
       rw (inv .2, found) (six-more noAssessment _ at (omega arith)),
-      c .lesser .ensures ∙ score-more _ at (inv .3) (ap (λ (f : Assessment). f .score) found),
+      c .lesser .ensures ∙ score-more _ at (inv .3) (λ i. found i .score),
     )
 
 cast-t25 : tie.Need-cast-t25 Inv-loop μ-loop

@@ -1,6 +1,5 @@
 -- `diagnosis::strengths::storey_sums` meets its contract: the first run of a storey's walls is all of them. Assumes nothing.
-use mathlib.Core.Path.{sym, _∙_}
-use native.Mathlib.Omega.{arith}
+use mathlib.Core.Path.{_∙_}
 use borrow.Author.Tests.{lt-leb, le-leb}
 use Rattle.survey.proofs.StoreyWalls.{run-is-walls}
 use Rattle.diagnosis.specs.Internal.{sumsIn}
