@@ -123,7 +123,7 @@ unfolding p1-scores
 p10-rises = (rw (p10-walls 90 (zones-known .2)), rw (p10-walls 100 (zones-known .3)))
 
 -- Document 01's small table in one statement over the definitions: P1 from its sheet to what is printed, with the count of bytes; P2 to P9 and
--- P11 on plain numbers; P10 in zones 90 and 100.
+-- P11 without a table; P10 in zones 90 and 100.
 pub houses-worked-out :
     ((diagnosing p1Sheet 195 .count ∷ []) ∷ afterDiagnosing p1Sheet (replicate 195 0) ∷ output p1Sheet ∷ worked ∷ p10Numbers 90 ∷ p10Numbers 100 ∷ [])
     ≡ ((195 ∷ []) ∷ p1Report ∷ p1Report ∷ expected ∷ (16 ∷ 11 ∷ 1 ∷ []) ∷ (14 ∷ 14 ∷ 0 ∷ []) ∷ [])

@@ -168,7 +168,7 @@ pub refused-output : output (take 65 p1Sheet) ≡ bytes "       0       3       
 refused-output = examples.refused-output
 
 -- Document 01, "Houses worked through", those lettered P: P1 from its sheet to what is printed, with the count of its bytes; P2 to P9, P11 and
--- more on plain numbers; P10 in zones 90 and 100, before the layout factor, with it, and the higher band in X, which falls from B to A.
+-- more without a table; P10 in zones 90 and 100, before the layout factor, with it, and the higher band in X, which falls from B to A.
 pub houses-worked-out :
     (
     (diagnosing p1Sheet 195 .count ∷ [])

@@ -52,9 +52,8 @@ BandKept A B storey direction = higherBand B storey direction ≡ higherBand A s
 abbrev pub scoreAt : ℕ → ℕ → ℕ
 scoreAt storey direction = 2 * (storey - 1) + (direction - 1)
 
--- What demand 3 says of B against A: "in every storey and direction B's score before the layout factor is at most A's; wherever the better end
--- stays in its band, B's full score as the program answers it is at most A's, rounding included; where all keep it, B's verdict is no
--- better".
+-- What demand 3 says of B against A: in every storey and direction B's score before the layout factor is at most A's; wherever the better end
+-- stays in its band, B's full score as the program answers it is at most A's, rounding included; where all keep it, B's verdict is no better.
 pub record NoBetter (A B : List ℕ) : Type 0 where
   pub before : (storey direction : ℕ) → InHouse A storey direction → scoreBefore B storey direction ≤ scoreBefore A storey direction
   pub full : (storey direction : ℕ) → InHouse A storey direction → BandKept A B storey direction → fullScore B storey direction ≤ fullScore A storey direction

@@ -45,7 +45,7 @@ unfoldable pub solidAtEnd : List ℕ → ℕ → ℕ → ℕ → Bool
 solidAtEnd walls direction end row =
     inDirection walls direction row && eqb (wallOf walls row .walltype) 1 && eqb (wallPlace walls row) (place end)
 
--- What those walls of a storey hold that a test takes.
+-- What a storey's walls hold, those of them that a test takes.
 abbrev pub heldWhere : (List ℕ → ℕ → Bool) → List ℕ → ℕ → ℕ
 heldWhere takes table storey =
     let walls = storeyWalls table storey in
@@ -93,7 +93,7 @@ endBands table storey direction = record { a = endBand table storey direction en
 unfoldable pub higherBand : List ℕ → ℕ → ℕ → ℕ
 higherBand table storey direction = max (endBand table storey direction endA) (endBand table storey direction endB)
 
--- A storey's floor type, where "a void makes floor type 1 into 2 and 2 into 3".
+-- A storey's floor type. "A void makes floor type 1 into 2 and 2 into 3."
 unfoldable pub storeyFloorType : List ℕ → ℕ → ℕ
 storeyFloorType table storey = floorType (storeyOf table storey)
 
@@ -107,7 +107,7 @@ deterioration table = deteriorationFactor (itemsOf table) (age table)
 
 -- Score and verdict
 
--- What a storey that holds so much holds and needs.
+-- What a storey holds, given as a number, and what is required of it.
 abbrev pub strengthsWith : List ℕ → ℕ → ℕ → Strengths
 strengthsWith table held storey = record { held = held; required = required table storey }
 
@@ -115,7 +115,7 @@ strengthsWith table held storey = record { held = held; required = required tabl
 unfoldable pub scoreBefore : List ℕ → ℕ → ℕ → ℕ
 scoreBefore table storey direction = scoreBeforeLayout (strengthsWith table (held table storey direction) storey) (deterioration table)
 
--- The full score of a storey and direction that holds so much; and by its own walls.
+-- The full score of a storey and direction, by a held strength that is given; and by what its own walls hold.
 unfoldable pub scoreWith : List ℕ → ℕ → ℕ → ℕ → ℕ
 scoreWith table held storey direction = score (strengthsWith table held storey) (layout table storey direction) (deterioration table)
 
@@ -141,7 +141,7 @@ leastScore table = leastOf (scores table)
 unfoldable pub houseVerdict : List ℕ → ℕ
 houseVerdict table = verdict (leastScore table)
 
--- What is worked out for a storey and direction that holds so much; and by its own walls.
+-- What is worked out for a storey and direction, by a held strength that is given; and by what its own walls hold.
 abbrev pub assessmentWith : List ℕ → ℕ → ℕ → ℕ → Assessment
 assessmentWith table held storey direction = record {
   held = held;

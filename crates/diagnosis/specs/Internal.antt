@@ -34,7 +34,7 @@ pub record Stands (table : List ℕ) : Type 0 where
   pub long : 8 * (3 * storeys table + 2) ≤ length table
   pub zoned : zone table ≤ 100
 
--- And this is its house row.
+-- The table is accepted, and this is what its house row says.
 pub record HouseOf (table : List ℕ) (house : House) : Type 0 where
   pub stands : Stands table
   pub row : house ≡ houseOf table
@@ -55,7 +55,7 @@ sumsOver house storey walls direction n = record {
   b = heldStrength (solidAtEnd walls direction endB) (share house storey walls) n;
 }
 
--- Such sums with one wall more, which is given by its row and counts so much.
+-- Such sums with one wall more, by its row and by what it counts.
 abbrev pub withWall : List ℕ → ℕ → ℕ → HeldSums → HeldSums
 withWall wall direction counted sums = record {
   all = sums .all + cond (inDirection wall direction 0) counted 0;
@@ -111,13 +111,13 @@ pub record SumsFit (table : List ℕ) (sums : HeldSums) (storey direction : ℕ)
 abbrev pub AllFit : List ℕ → List HeldSums → Type 0
 AllFit table sums = (at : ℕ) → at < 2 * storeys table → SumsFit table (getD sums at noSums) (storeyAt at) (directionAt at)
 
--- What such sums say that each storey and direction holds in all.
+-- What each storey and direction holds in all, by such sums.
 abbrev pub allHeld : List HeldSums → ℕ → ℕ
 allHeld sums at = getD sums at noSums .all
 
 -- A house worked out
 
--- By what its storeys and directions hold; and by its own walls.
+-- Place by place, by held strengths that are given.
 abbrev pub assessmentAt : List ℕ → (ℕ → ℕ) → ℕ → Assessment
 assessmentAt table holds at = assessmentWith table (holds at) (storeyAt at) (directionAt at)
 
@@ -132,6 +132,7 @@ houseAssessmentWith table holds = record {
   factor = deterioration table;
 }
 
+-- And by what its own walls hold.
 abbrev pub houseAssessment : List ℕ → HouseAssessment
 houseAssessment table = houseAssessmentWith table (allHeld (houseSums table))
 

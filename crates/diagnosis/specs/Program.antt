@@ -31,12 +31,12 @@ afterDiagnosing sheet report = cond (accepts (diagnosing sheet (length report)))
 abbrev pub mostReportBytes : ℕ
 mostReportBytes = 65 * 7
 
--- "The scoring program reads a sheet on standard input and prints" its report; "for a refused sheet it prints one line alone".
+-- "The scoring program reads a sheet on standard input and prints" its report. "For a refused sheet it prints one line alone."
 unfoldable pub output : List ℕ → List ℕ
 output sheet =
     let answer = diagnosing sheet mostReportBytes in
     cond (accepts answer) (reportBytes (tableOf sheet)) (refusalLine (answer .number) (answer .row) (answer .column))
 
--- So many bytes of which the first are what is printed, and the others 0.
+-- As many bytes as the longest report has: what is printed, and then 0s.
 unfoldable pub outputBytes : List ℕ → List ℕ
 outputBytes sheet = over (replicate mostReportBytes 0) (output sheet)

@@ -23,8 +23,8 @@ pub struct ProgramOutput {
     pub length: usize,
 }
 
-// Diagnoses a sheet by way of a table that has room for any.
-fn diagnose_by(sheet: &[u8], table: &mut [u32], report: &mut [u8]) -> Answer
+// Diagnoses a sheet: reads it into a table that has room for any sheet, and writes that table's report.
+fn diagnose_with_table(sheet: &[u8], table: &mut [u32], report: &mut [u8]) -> Answer
     requires { ⌜ length (now table) ≡ mostNumbers ⌝ }
     ensures answer { λ r. ⌜ told r ≡ diagnosing (now (sheet .entry)) (length (now (report .entry))) ⌝ }
     ensures report { λ _. ⌜ now (report .exit) ≡ afterDiagnosing (now (sheet .entry)) (now (report .entry)) ⌝ }
@@ -46,7 +46,7 @@ pub fn diagnose(sheet: &[u8], report: &mut [u8]) -> Answer
     ensures report { λ _. ⌜ now (report .exit) ≡ afterDiagnosing (now (sheet .entry)) (now (report .entry)) ⌝ }
 {
     let mut table = [0u32; MOST_NUMBERS];
-    diagnose_by(sheet, &mut table, report)
+    diagnose_with_table(sheet, &mut table, report)
 }
 
 // What the scoring program prints for any sheet: its report, or the line of its refusal alone.

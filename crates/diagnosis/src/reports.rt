@@ -88,7 +88,8 @@ fn fill_results(found: HouseAssessment, rows: &mut [u32])
     }
 }
 
-// Prints the report of what is worked out for a house where there is room for it, by way of its rows.
+// Prints the report of what is worked out for a house, where there is room for it: its rows are filled with
+// numbers first, and then printed.
 fn print_report(found: HouseAssessment, rows: &mut [u32], report: &mut [u8])
     requires found { ⌜ Printable found ⌝ }
     requires rows { ⌜ length (now rows) ≡ 56 ⌝ }

@@ -68,7 +68,8 @@ fn added(takes: bool, counted: u64) -> u64
     0
 }
 
-// The sums of a direction with one wall more, which counts so much. Openings count towards the whole alone.
+// The sums of a direction with one wall more, by what that wall counts. An opening counts towards the whole
+// alone.
 fn with_wall(wall: &[u32], direction: u32, counted: u64, sums: HeldSums) -> HeldSums
     requires counted { ⌜ counted ≤ mostHeld ⌝ }
     requires sums { ⌜ (sums .all ≤ mostHeld) × (sums .a ≤ mostHeld) × (sums .b ≤ mostHeld) ⌝ }

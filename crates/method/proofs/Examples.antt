@@ -1,4 +1,4 @@
--- Document 01's worked examples on plain numbers, its table of layout factors, and an instance of each law that compares, in which a number
+-- Document 01's worked examples that need no table, its table of layout factors, and an instance of each law that compares, in which a number
 -- really falls, by computation. Assumes nothing.
 use mathlib.Core.Path.{_≡_, refl}
 use Prim.Native.Nat.{_*_, _≤_}

@@ -8,8 +8,8 @@ use Rattle.method.specs.declared.rows.House.{House}
 use Rattle.method.specs.declared.rows.Wall.{Wall}
 use Rattle.method.specs.Printed.{nth}
 
--- "000's table of reductions for column joints outside snow areas (its 'reference 2')", in hundredths, as it is printed: a line a joint; from
--- the left the strengths 2.0, 3.0, 5.0 and 7.0 kN/m, in tables 2 and 3 each for foundations I, II and III.
+-- "000's table of reductions for column joints outside snow areas" (000 calls it reference 2), in hundredths, as it is printed: a line a joint;
+-- from the left the strengths 2.0, 3.0, 5.0 and 7.0 kN/m, in tables 2 and 3 each for foundations I, II and III.
 
 -- Table 1 (its table 4.3 has the same, for three storeys too): the top storey of two or three.
 abbrev pub topStorey : List (List ℕ)

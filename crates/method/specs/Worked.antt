@@ -1,4 +1,4 @@
--- Document 01's worked examples on plain numbers, "Houses worked through", and after them numbers for what its examples leave open: each
+-- Document 01's worked examples that need no table, "Houses worked through", and after them numbers for what its examples leave open: each
 -- definition has a number that another definition would change.
 use mathlib.Core.List.{List, [], _∷_}
 use Prim.Native.Nat.{ℕ}

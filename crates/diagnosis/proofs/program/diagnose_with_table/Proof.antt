@@ -1,10 +1,10 @@
--- `diagnosis::program::diagnose_by` meets its contract: the refusal of reading, or the report of the sheet's table. Assumes nothing.
+-- `diagnosis::program::diagnose_with_table` meets its contract: the refusal of reading, or the report of the sheet's table. Assumes nothing.
 use native.Mathlib.Omega.{arith}
 use denote.Ref.{now}
 use borrow.Author.Needs.{needs}
 use Rattle.diagnosis.proofs.Reporting.{rows-fit, diagnose-refused, diagnose-read}
-use Rattle.diagnosis.proofs.program.diagnose_by.Statement.{statement}
-use Rattle.diagnosis.proofs.program.diagnose_by.Tie as tie
+use Rattle.diagnosis.proofs.program.diagnose_with_table.Statement.{statement}
+use Rattle.diagnosis.proofs.program.diagnose_with_table.Tie as tie
 
 read-requires : tie.Need-read-requires
 read-requires c κs = search needs
@@ -61,8 +61,8 @@ returns-2 c =
     (c .before .before .before .before .before .before .before .answer .given .1) (at-read .read .ensures .1) (c .before .before .report .ensures .0)
     (c .before .before .report .ensures .1)
 
-pub diagnose-by-spec : {M : Type 1} → statement M
-diagnose-by-spec =
+pub diagnose-with-table-spec : {M : Type 1} → statement M
+diagnose-with-table-spec =
     tie.close
     (tie.spec
     read-requires
