@@ -16,14 +16,15 @@ use Rattle.survey.specs.Acceptance.{Accepted}
 use Rattle.survey.proofs.Acceptance.{accepted, accepted-zone}
 use Rattle.survey.proofs.AlikeTables.{parts-row-alike, walls-alike}
 use Rattle.method.specs.declared.rows.HousePart.{HousePart}
-use Rattle.method.specs.Held.{position, foundationUsed, jointFactor, solidShare, wallShare}
 use Rattle.method.specs.Required.{narrowFactor}
 use Rattle.method.specs.LayoutFactor.{NoStronger, floorType}
 use Rattle.method.specs.Deterioration.{_at-most_}
+use Rattle.method.proofs.Shares as shares
+use Rattle.method.proofs.Requirements as requirements
 use Rattle.method.proofs.Requirements.{narrow-least, required-rises, required-positive}
 use Rattle.method.proofs.Fractions.{deterioration-falls}
 use Rattle.method.proofs.Comparisons.{score-before-falls, full-score-falls, verdict-rises}
-use Rattle.diagnosis.specs.Rows.{houseOf, foundation, storeyOf, storeyPart, endA, endB, present, marked, itemsOf}
+use Rattle.diagnosis.specs.Rows.{houseOf, foundation, storeyOf, storeyPart, endA, endB, wallOf, present, marked, itemsOf}
 use Rattle.diagnosis.specs.House.{InHouse, share, held, endHeld, narrow, requiredOf, required, endRequired, endStrengths, endBand, higherBand, storeyFloorType, layout, deterioration, strengthsWith, scoreBefore, scoreWith, fullScore, scores, leastScore, houseVerdict}
 use Rattle.diagnosis.specs.Answers.{recordOf}
 use Rattle.diagnosis.specs.Comparison.{houseMayDiffer, partsMayDiffer, mayDiffer, SameOrWorse, BandKept, NoBetter}
@@ -80,8 +81,7 @@ module _ (A B : List ℕ) (w : SameOrWorse A B) where
 
   -- So a storey holds the same, and so do its ends.
   share-same : (storey : ℕ) (walls : List ℕ) → share (houseOf A) storey walls ≡ share (houseOf B) storey walls
-  unfolding wallShare solidShare jointFactor position foundationUsed
-  share-same storey walls = fun-ext (λ row. rw (storeys-same, foundation-same))
+  share-same storey walls = fun-ext (λ row. shares.share-same (houseOf A) (houseOf B) storeys-same foundation-same storey (wallOf walls row))
 
   held-same : (storey direction : ℕ) → held A storey direction ≡ held B storey direction
   unfolding held
@@ -102,13 +102,18 @@ module _ (A B : List ℕ) (w : SameOrWorse A B) where
     storey-same : (column : ℕ) → column < 8 → cell A storey column ≡ cell B storey column
     storey-same column inside = row-same storey column (λ e. omega arith) (λ e. omega arith) inside
 
+    storey-row-same : storeyOf A storey ≡ storeyOf B storey
+    storey-row-same =
+        rw (storey-same 2 (omega arith), storey-same 3 (omega arith), storey-same 4 (omega arith), storey-same 5 (omega arith))
+
     floor-same : storeyFloorType A storey ≡ storeyFloorType B storey
-    unfolding storeyFloorType floorType
-    floor-same = rw (storey-same 4 (omega arith), storey-same 5 (omega arith))
+    unfolding storeyFloorType
+    floor-same = ap floorType storey-row-same
 
     narrow-same : narrow A storey ≡ narrow B storey
-    unfolding narrow narrowFactor
-    narrow-same = rw (storeys-same, storey-same 3 (omega arith))
+    unfolding narrow
+    narrow-same =
+        requirements.narrow-same (houseOf A) (houseOf B) storeys-same (storeyOf A storey) ∙ ap (narrowFactor (houseOf B)) storey-row-same
 
     -- What is required of a part of the storey is no less.
     required-of-rises : (a-part b-part : HousePart) → a-part .storey ≡ storey → a-part ≡ b-part → requiredOf A a-part ≤ requiredOf B b-part

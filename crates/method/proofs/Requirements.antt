@@ -115,6 +115,11 @@ pub narrow-most : (house : House) (storey : Storey) → narrowFactor house store
 unfolding narrowFactor
 narrow-most house storey = cond-most (leb 2 (house .storeys) && eqb (storey .number) 1 && ltb (storey .side) 4000) (λ e. lit≤ tt) (λ e. lit≤ tt)
 
+-- Of a house it takes the storeys alone.
+pub narrow-same : (house other : House) → house .storeys ≡ other .storeys → (storey : Storey) → narrowFactor house storey ≡ narrowFactor other storey
+unfolding narrowFactor
+narrow-same house other storeys storey = rw storeys
+
 -- No constant is above 207.
 pub constant-most : (part : HousePart) (weight : ℕ) → constant part weight ≤ 207
 unfolding constant

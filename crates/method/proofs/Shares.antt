@@ -8,7 +8,7 @@ use native.Mathlib.Omega.{arith}
 use lib.Dec.{eqb, lit≤}
 use Rattle.method.specs.declared.rows.House.{House}
 use Rattle.method.specs.declared.rows.Wall.{Wall}
-use Rattle.method.specs.Held.{solidShare, openingShare, wallShare, heldStrength}
+use Rattle.method.specs.Held.{position, foundationUsed, jointFactor, solidShare, openingShare, wallShare, heldStrength}
 use Rattle.method.proofs.Branches.{cond-most}
 use Rattle.method.proofs.Factors.{joint-most}
 
@@ -33,6 +33,12 @@ module _ (house : House) (storey : ℕ) (wall : Wall) (short : wall .length ≤ 
       cond-most (eqb (wall .walltype) 1) (λ e. solid-most)
       (λ e. cond-most (eqb (wall .walltype) 2) (λ d. opening-most 6 (lit≤ tt))
       (λ d. cond-most (eqb (wall .walltype) 3) (λ f. opening-most 3 (lit≤ tt)) (λ f. lit≤ tt)))
+
+-- Of a house a wall's share takes the storeys and the foundation alone.
+pub share-same : (house other : House) → house .storeys ≡ other .storeys → house .foundation ≡ other .foundation
+    → (storey : ℕ) (wall : Wall) → wallShare house storey wall ≡ wallShare other storey wall
+unfolding wallShare solidShare jointFactor position foundationUsed
+share-same house other storeys foundation storey wall = rw (storeys, foundation)
 
 -- The sum over the walls that a test takes.
 module _ (takes : ℕ → Bool) (share : ℕ → ℕ) where
