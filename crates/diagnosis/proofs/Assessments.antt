@@ -37,6 +37,14 @@ pub lower-some : (table : List ℕ) → 0 < deterioration table .lower
 unfolding deterioration
 lower-some table = deterioration-bounded (itemsOf table) (age table) .lower-positive
 
+-- What holds of each number of storeys.
+by-storeys : {P : Type 0} (n : ℕ) → n ≤ 3 → (n ≡ 0 → P) → (n ≡ 1 → P) → (n ≡ 2 → P) → (n ≡ 3 → P) → P
+by-storeys zero few none one two three = none refl
+by-storeys (suc zero) few none one two three = one refl
+by-storeys (suc (suc zero)) few none one two three = two refl
+by-storeys (suc (suc (suc zero))) few none one two three = three refl
+by-storeys (suc (suc (suc (suc n)))) few none one two three = absurd (omega arith)
+
 module _ (table : List ℕ) (h : judging table .number ≡ 0) where
   few : (at : ℕ) → at < 2 * storeys table → at < 6
   few at inside = omega (arith, storeys-few table h)
@@ -69,25 +77,11 @@ module _ (table : List ℕ) (h : judging table .number ≡ 0) where
   -- The record and the report, by how many storeys there are.
   pub record-is : recordBy (houseAssessment table) ≡ recordOf table
   unfolding houseAssessmentWith houseSums sumsIn six recordOf houseVerdict leastScore scores joined over
-  record-is = go (storeys table) refl (storeys-few table h .1)
-    where
-      go : (n : ℕ) → storeys table ≡ n → n ≤ 3 → recordBy (houseAssessment table) ≡ recordOf table
-      go zero e l = simp e
-      go (suc zero) e l = simp e
-      go (suc (suc zero)) e l = simp e
-      go (suc (suc (suc zero))) e l = simp e
-      go (suc (suc (suc (suc n)))) e l = absurd (omega arith)
+  record-is = by-storeys (storeys table) (storeys-few table h .1) (λ e. simp e) (λ e. simp e) (λ e. simp e) (λ e. simp e)
 
   report-bytes : bytesBy (houseAssessment table) ≡ reportBytes table
   unfolding houseAssessmentWith houseSums sumsIn six reportBytes reportRows resultRows leastScore scores joined
-  report-bytes = go (storeys table) refl (storeys-few table h .1)
-    where
-      go : (n : ℕ) → storeys table ≡ n → n ≤ 3 → bytesBy (houseAssessment table) ≡ reportBytes table
-      go zero e l = simp e
-      go (suc zero) e l = simp e
-      go (suc (suc zero)) e l = simp e
-      go (suc (suc (suc zero))) e l = simp e
-      go (suc (suc (suc (suc n)))) e l = absurd (omega arith)
+  report-bytes = by-storeys (storeys table) (storeys-few table h .1) (λ e. simp e) (λ e. simp e) (λ e. simp e) (λ e. simp e)
 
   count-is : houseAssessment table .count ≡ 2 * storeys table
   unfolding houseAssessmentWith
