@@ -28,7 +28,7 @@ pub either-by-number : (test : Bool) (one other : Told) → ByNumber one → ByN
 either-by-number true one other e f = e
 either-by-number false one other e f = f
 
--- Where the code's answer is a refusal, and tells such an answer, that is none that is accepted.
+-- Where the code answers with a refusal, and what it tells is such an answer, the number is not 0.
 pub refused-number : {answer : Answer} {tells : Told} {number row column : ℕ} → told answer ≡ tells → ByNumber tells → answer ≡ Refused number row column
     → accepts tells ≡ false
 refused-number e by-number refused = sym by-number ∙ ap (λ (t : Told). t .counts) (sym e ∙ ap told refused)

@@ -9,8 +9,8 @@ use lib.Dec.{eqb, leb}
 abbrev pub mostWalls : ℕ
 mostWalls = 300
 
--- The most lines of a sheet, and the most rows of a table: the house's row, three storeys, their six ends, the walls, the parts row. "A sheet has
--- at most 311 lines."
+-- The most lines of a sheet, and the most rows of a table: the house's row, three rows of storeys, six rows of ends, the walls, the parts row.
+-- "A sheet has at most 311 lines."
 abbrev pub mostRows : ℕ
 mostRows = 1 + 3 + 6 + mostWalls + 1
 

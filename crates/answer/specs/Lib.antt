@@ -1,4 +1,4 @@
--- The definitions that promises about answers cite; those about lists, which every layer cites; and the houses of the examples.
+-- The definitions that promises about answers cite, those about lists, and the houses of the examples.
 pub mod Told
 pub mod Lists
 pub mod First

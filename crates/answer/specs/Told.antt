@@ -5,8 +5,8 @@ use lib.Dec.{eqb}
 use Rattle.answer.specs.declared.Answer.{Answer}
 use Rattle.answer.specs.declared.Answer.the-variants.{Count, Refused}
 
--- What is told, in the word of that heading: whether the answer is a count; a refusal's number (0 where it is a count), its row and column; and
--- the count.
+-- What is told, which is document 01's own word: whether the answer is a count; a refusal's number (0 where it is a count), its row and column;
+-- and the count.
 pub record Told : Type 0 where
   pub counts : Bool
   pub number : ℕ

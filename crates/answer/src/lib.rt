@@ -1,10 +1,10 @@
 // What every operation on lent storage answers: a count, or a refusal with its place.
 //
-// The lowest layer: it uses no other crate. The definition `told`
-// (specs/Told.antt) gives document 01's number and values for each case, and every promise about an
-// answer uses it. The rule of refusal 1 stands here too, since reading, writing and judging share it,
-// and so do lists (specs/Lists.antt) and the houses that the examples of every layer speak of
-// (specs/Houses.antt).
+// The lowest layer: it uses no other crate. The definition `told` (specs/Told.antt) gives document 01's
+// number and values for each case, and every promise about an answer uses it. What the layers above
+// share stands here too: the limits and the rule of refusal 1 (specs/Length.antt), the first place at
+// which a test holds (specs/First.antt), lists and parts of lists (specs/Lists.antt), and the houses
+// that the examples speak of (specs/Houses.antt).
 ghost use mathlib.Core.Path.{_≡_};
 ghost use Rattle.answer.specs.Length.{rowsIn};
 
@@ -42,8 +42,8 @@ pub const ROW: usize = 8;
 
 // The most walls of a house.
 pub const MOST_WALLS: usize = 300;
-// The most lines of a sheet, and the most rows of a table: the house's row, three storeys, their six
-// ends, the walls, the parts row.
+// The most lines of a sheet, and the most rows of a table: the house's row, three rows of storeys, six
+// rows of ends, the walls, the parts row.
 pub const MOST_ROWS: usize = 1 + 3 + 6 + MOST_WALLS + 1;
 // The numbers of the longest table.
 pub const MOST_NUMBERS: usize = MOST_ROWS * ROW;

@@ -1,4 +1,4 @@
--- What the structs tell that a host gets, in the paper's values. Document 01: "The host program on the phone calls it with
+-- What the structs that a host gets tell, in the paper's values. Document 01: "The host program on the phone calls it with
 -- numbers and byte slices and must get the same answers."
 use mathlib.Core.List.{List}
 use Prim.Native.Nat.{ℕ}
@@ -21,7 +21,7 @@ toldHost answer = record {
   count = answer .count;
 }
 
--- The numbers that cross for what is told.
+-- The struct that a host gets for what is told. (It has no field for whether that is a count.)
 abbrev pub hostNumbers : Told → HostAnswer
 hostNumbers answer = record { number = answer .number; row = answer .row; column = answer .column; count = answer .count }
 

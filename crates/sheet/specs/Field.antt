@@ -36,7 +36,8 @@ value Blank = 0
 value (Number n) = n
 value Misprint = 0
 
--- The character of a number's digit that counts tens, hundreds and so on, by that weight; a space where the number has no such digit.
+-- The character at the place of the tens (weight 10), of the hundreds (weight 100) and so on: the number's digit there, or a space where the
+-- number is smaller than the weight.
 unfoldable pub digitOrSpace : ℕ → ℕ → ℕ
 digitOrSpace weight n = cond (ltb n weight) 32 (48 + n / weight % 10)
 

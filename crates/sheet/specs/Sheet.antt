@@ -22,13 +22,13 @@ refusalAt number columns at = refusal number (at / columns + 1) (at % columns + 
 unfoldable pub fieldAt : List ℕ → ℕ → ℕ → List ℕ
 fieldAt sheet i j = part 8 j (part 65 i sheet)
 
--- Whether refusal 2 is due at a place. A line has nine places: its eight fields, and then its last byte, which is to be 10.
+-- Whether refusal 2 is due at a place. A line has nine places: its eight fields, and then its last byte, which must be 10.
 unfoldable pub misprinted : List ℕ → ℕ → Bool
 misprinted sheet place =
     cond (eqb (place % 9) 8) (not (eqb (getD (part 65 (place / 9) sheet) 64 0) 10))
     (not (isNumber (field (fieldAt sheet (place / 9) (place % 9)))))
 
--- The first numbers of a sheet, as many as `count`, eight to a line.
+-- The first `count` numbers of a sheet, eight to a line.
 unfoldable pub numbersOf : ℕ → List ℕ → List ℕ
 numbersOf count sheet = joined count (λ place. value (field (fieldAt sheet (place / 8) (place % 8))) ∷ [])
 
@@ -49,7 +49,7 @@ afterReading sheet table =
 
 -- Writing
 
--- The lines of a table's first rows, as many as `rows`.
+-- The first `rows` rows of a table, each printed as a line.
 unfoldable pub linesOf : ℕ → List ℕ → List ℕ
 linesOf rows table = joined rows (λ i. line (part 8 i table))
 

@@ -67,8 +67,8 @@ pub(crate) fn scan(characters: &[u8]) -> Field
     made
 }
 
-// The character of a number's digit that counts tens, hundreds and so on, by that weight; a space where
-// the number has no such digit.
+// The character at the place of the tens (weight 10), of the hundreds (weight 100) and so on: the
+// number's digit there, or a space where the number is smaller than the weight.
 fn digit_or_space(weight: u32, n: u32) -> u8
     requires { ⌜ 0 < weight ⌝ }
     ensures { λ r. ⌜ r ≡ digitOrSpace weight n ⌝ }

@@ -1,5 +1,5 @@
 -- Where rows stand: the row after the walls, and what lies beyond a table. Assumes nothing.
-use mathlib.Core.Path.{_≡_, ap, _∙_}
+use mathlib.Core.Path.{_≡_, sym, ap, _∙_}
 use mathlib.Core.Bool.{true, false, not}
 use mathlib.Core.List.{List}
 use Prim.Native.Nat.{ℕ, _+_, _-_, _*_, _<_, _≤_}
@@ -21,13 +21,16 @@ wall-within table row wall = go (decLt (8 * row) (length table))
     go (yes l) = l
     go (no l) = absurd (omega (arith, beyond table row 0 (omega arith), eqb-true (cell table row 0) 4 wall))
 
--- The first row after the walls before it.
-module _ (table : List ℕ) {first walls : ℕ} (e : first ≡ firstWall table) where
-  pub parts-row-is : walls ≤ length table → ((k : ℕ) → k < walls → not (isWall table (first + k)) ≡ false)
-      → not (isWall table (first + walls)) ≡ true → first + walls ≡ partsRow table
+-- The first row after the walls, where every row from the first wall's on has been one.
+module _ (table : List ℕ) {start row : ℕ} (e : start ≡ firstWall table) where
+  pub parts-row-is : start ≤ row → row - start ≤ length table → ((k : ℕ) → k < row → start ≤ k → isWall table k ≡ true)
+      → isWall table row ≡ false → row ≡ partsRow table
   unfolding wallRows
-  parts-row-is h before here =
-      ap (λ (n : ℕ). n + walls) e ∙ ap (λ (n : ℕ). firstWall table + n) (first-stop _ _ _ h (rw (e) at before) (rw e at here))
+  parts-row-is past few before here =
+      let there : firstWall table + (row - start) ≡ row = omega arith in
+      sym there
+      ∙ ap (λ (n : ℕ). firstWall table + n)
+      (first-stop _ _ (row - start) few (λ k l. ap not (before (firstWall table + k) (omega arith) (omega arith))) (rw there (ap not here)))
 
 -- The row of a storey's ends in a direction stands between the storeys and the walls, and that storey and direction are due in it.
 module _ (table : List ℕ) (storey direction : ℕ) (some : 1 ≤ storey) (one : 1 ≤ direction) (two : direction ≤ 2) where

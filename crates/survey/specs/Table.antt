@@ -29,7 +29,7 @@ endsStorey table row = (row - firstEnds table) / 2 + 1
 abbrev pub endsDirection : List ℕ → ℕ → ℕ
 endsDirection table row = (row - firstEnds table) % 2 + 1
 
--- The walls follow: the rows of kind 4 from there on, down to the first row that is of another kind.
+-- The walls follow, down to the first row that is not of kind 4.
 abbrev pub firstWall : List ℕ → ℕ
 firstWall table = 3 * storeys table + 1
 

@@ -10,7 +10,7 @@ use Rattle.answer.specs.First.{first}
 use Rattle.survey.specs.Table.{cell, isWall}
 use Rattle.survey.specs.Judgement.{judging}
 
--- The rows of a table from a row on, as many as `count`.
+-- So many rows of a table (`count`), from a row on.
 unfoldable pub rowsFrom : List ℕ → ℕ → ℕ → List ℕ
 rowsFrom table row count = take (8 * count) (drop (8 * row) table)
 

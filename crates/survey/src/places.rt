@@ -10,10 +10,9 @@ ghost use Rattle.survey.specs.Table.{partsRow};
 pub fn parts_row(table: &[u32]) -> usize
     ensures { λ r. ⌜ r ≡ partsRow (now (table .entry)) ⌝ }
 {
-    let first = 3 * (cell(table, 0, STOREYS) as usize) + 1;
-    let mut walls = 0;
-    while is_wall(table, first + walls) {
-        walls += 1;
+    let mut row = 3 * (cell(table, 0, STOREYS) as usize) + 1;
+    while is_wall(table, row) {
+        row += 1;
     }
-    first + walls
+    row
 }

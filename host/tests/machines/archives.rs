@@ -323,4 +323,6 @@ fn what_is_not_proved_is_not_written() {
     assert!(text(&output.stderr).ends_with(last));
     assert!(!written.exists(), "an archive of other code is left");
     assert!(!copy.join("target/archive/wasm32").exists());
+    // Else rt would take its crates for lost files of the repository.
+    fs::remove_dir_all(copy).expect("the copy can be removed");
 }

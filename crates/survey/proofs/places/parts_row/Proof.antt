@@ -1,69 +1,65 @@
--- `survey::places::parts_row` meets its contract. The loop's invariant: the rows before are walls, and within the table. Assumes nothing.
+-- `survey::places::parts_row` meets its contract. The loop's invariant: every row from the first wall's on is a wall. Assumes nothing.
 use mathlib.Core.Path.{_≡_, sym, ap, _∙_}
-use mathlib.Core.Bool.{false, not}
+use mathlib.Core.Bool.{true}
 use Prim.Native.Nat.{ℕ, _-_, _+_, _*_, _<_, _≤_}
 use native.Mathlib.Omega.{arith}
 use lib.ListN.{length}
 use denote.Ref.{now}
 use borrow.Author.Needs.{needs}
-use borrow.Author.Count.{below-none, below-more}
+use borrow.Author.Count.{below-more}
 use Rattle.survey.specs.Table.{isWall}
 use Rattle.survey.proofs.Positions.{parts-row-is, wall-within}
 use Rattle.survey.proofs.places.parts_row.Statement.{statement}
 use Rattle.survey.proofs.places.parts_row.Tie as tie
 
 abbrev Inv-loop : tie.InvT-loop
-Inv-loop table first walls₀ walls = (8 * walls ≤ length table) × ((k : ℕ) → k < walls → not (isWall table (first + k)) ≡ false)
+Inv-loop table row₀ row = (row₀ ≤ row) × (row - row₀ ≤ length table) × ((k : ℕ) → k < row → row₀ ≤ k → isWall table k ≡ true)
 
 abbrev μ-loop : tie.MeasureT-loop
-μ-loop table first walls₀ walls = length table - walls
+μ-loop table row₀ row = length table - row
 
 cell-requires : tie.Need-cell-requires Inv-loop μ-loop
 cell-requires c κs = search needs
 
-cast-first : tie.Need-cast-first Inv-loop μ-loop
-cast-first c = search needs
+cast-row : tie.Need-cast-row Inv-loop μ-loop
+cast-row c = search needs
 
-mul-first : tie.Need-mul-first Inv-loop μ-loop
-mul-first c = search needs
+mul-row : tie.Need-mul-row Inv-loop μ-loop
+mul-row c = search needs
 
-add-first : tie.Need-add-first Inv-loop μ-loop
-add-first c = search needs
+add-row : tie.Need-add-row Inv-loop μ-loop
+add-row c = search needs
 
 loop-holds : tie.Need-loop-holds Inv-loop μ-loop
-loop-holds c = (search needs, below-none _)
-
-add-is-wall : tie.Need-add-is-wall Inv-loop μ-loop
-add-is-wall c = search needs
+loop-holds c = (search needs, search needs, λ k l m. absurd (omega arith))
 
 is-wall-requires : tie.Need-is-wall-requires Inv-loop μ-loop
 is-wall-requires c κs = search needs
 
-add-walls : tie.Need-add-walls Inv-loop μ-loop
-add-walls c = search needs
+-- Within the loop the row is a wall, so it lies within the table.
+wall : (c : tie.Then1 Inv-loop μ-loop)
+    → let at-loop = c .before .before in isWall (now (at-loop .before .before .before .args .table)) (at-loop .loop .row) ≡ true
+wall c = sym (c .before .is-wall .ensures) ∙ c .if1 .taken
 
--- A row that is a wall lies within the table.
 within : (c : tie.Then1 Inv-loop μ-loop)
-    → let at-loop = c .before .before in 8 * (3 * at-loop .before .cell .result + 1 + at-loop .loop .walls) < length (now (at-loop .before .before .before .args .table))
-within c = wall-within (now (c .before .before .before .before .before .args .table)) _ (sym (c .before .is-wall .ensures) ∙ c .if1 .taken)
+    → let at-loop = c .before .before in 8 * at-loop .loop .row < length (now (at-loop .before .before .before .args .table))
+within c = wall-within (now (c .before .before .before .before .before .args .table)) _ (wall c)
+
+add-row-2 : tie.Need-add-row-2 Inv-loop μ-loop
+add-row-2 c = omega (arith, within c)
 
 loop-less : tie.Need-loop-less Inv-loop μ-loop
 loop-less c = omega (arith, within c)
 
 loop-again : tie.Need-loop-again Inv-loop μ-loop
-loop-again c =
-    let at-test = c .before in
-    (omega (arith, within c), below-more _ _ (at-test .before .loop .inv .1) (rw (← at-test .is-wall .ensures) (ap not (c .if1 .taken))))
-
-add-result : tie.Need-add-result Inv-loop μ-loop
-add-result c = search needs
+loop-again c = (omega arith, omega (arith, within c), below-more _ _ (c .before .before .loop .inv .2) (λ l. wall c))
 
 returns : tie.Need-returns Inv-loop μ-loop
 returns c =
     let at-loop = c .before .before in
-    let table = now (at-loop .before .before .before .args .table) in
-    parts-row-is table (ap (λ (n : ℕ). 3 * n + 1) (at-loop .before .cell .ensures)) (omega arith) (at-loop .loop .inv .1)
-    (rw (← c .before .is-wall .ensures) (ap not (c .if1 .left)))
+    let start = ap (λ (n : ℕ). 3 * n + 1) (at-loop .before .cell .ensures) in
+    let inv = at-loop .loop .inv in
+    parts-row-is (now (at-loop .before .before .before .args .table)) start (inv .0) (inv .1) (inv .2) (sym (c .before .is-wall .ensures) ∙ c .if1 .left)
 
 pub parts-row-spec : {M : Type 1} → statement M
 parts-row-spec =
@@ -72,14 +68,12 @@ parts-row-spec =
     Inv-loop
     μ-loop
     cell-requires
-    cast-first
-    mul-first
-    add-first
+    cast-row
+    mul-row
+    add-row
     loop-holds
-    add-is-wall
     is-wall-requires
-    add-walls
+    add-row-2
     loop-less
     loop-again
-    add-result
     returns)
