@@ -1,4 +1,4 @@
--- `diagnose::main` is safe: what is printed is a part of the bytes that it was given. Assumes nothing.
+-- `diagnose::main` is safe: what is printed is a part of the bytes that it was given. Assumes the kit's contracts of the C functions that it calls.
 use borrow.Author.Needs.{needs}
 use Rattle.diagnosis.proofs.Reporting.{output-within}
 use Rattle.diagnose.proofs.main.Statement.{statement}

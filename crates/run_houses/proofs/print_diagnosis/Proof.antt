@@ -1,4 +1,5 @@
--- `run_houses::print_diagnosis` is safe: what is printed is a part of the bytes that it was given. Assumes nothing.
+-- `run_houses::print_diagnosis` is safe: what is printed is a part of the bytes that it was given. Assumes the kit's contracts of the C functions
+-- that it calls.
 use borrow.Author.Needs.{needs}
 use Rattle.diagnosis.proofs.Reporting.{output-within}
 use Rattle.run_houses.proofs.print_diagnosis.Statement.{statement}

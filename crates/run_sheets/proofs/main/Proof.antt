@@ -1,4 +1,4 @@
--- `run_sheets::main` is safe and ends: the measure is the arguments that are left. Assumes nothing.
+-- `run_sheets::main` is safe and ends: the measure is the arguments that are left. Assumes the kit's contracts of the C functions that it calls.
 use Prim.Native.Nat.{_-_}
 use borrow.Author.Needs.{needs}
 use Rattle.run_sheets.proofs.main.Statement.{statement}

@@ -1,4 +1,4 @@
--- `run_sheets::print_again` is safe: what is counted is within the bytes. Assumes nothing.
+-- `run_sheets::print_again` is safe: what is counted is within the bytes. Assumes the kit's contracts of the C functions that it calls.
 use lib.ListN.{length}
 use denote.Ref.{now}
 use Rattle.run_sheets.proofs.Rewriting.{again-counted}

@@ -1,4 +1,4 @@
--- `run_surveys::run_large` is safe and ends: the measure is the numbers that are left. Assumes nothing.
+-- `run_surveys::run_large` is safe and ends: the measure is the numbers that are left. Assumes the kit's contracts of the C functions that it calls.
 use mathlib.Core.Path.{_≡_}
 use Prim.Native.Nat.{_-_}
 use lib.ListN.{length}

@@ -1,4 +1,4 @@
--- `run_surveys::run_lengths` is safe and ends: the measure is the fronts that are left. Assumes nothing.
+-- `run_surveys::run_lengths` is safe and ends: the measure is the fronts that are left. Assumes the kit's contracts of the C functions that it calls.
 use Prim.Native.Nat.{_-_, suc}
 use lib.ListN.{length}
 use borrow.Author.Needs.{needs}
