@@ -3,7 +3,6 @@ use mathlib.Core.Path.{_≡_, refl, sym, ap, _∙_}
 use mathlib.Core.Bool.{Bool, true, false, cond}
 use Prim.Native.Nat.{ℕ, zero, suc, _<_, _≤_, zero-le, suc-le-suc}
 use native.Mathlib.Nat.{le-of-suc-le-suc, not-suc-le-zero, zero-lt-suc}
-use native.Mathlib.Decide.{decLt}
 use native.Mathlib.Omega.{arith}
 use Rattle.answer.specs.First.{first}
 
@@ -28,14 +27,6 @@ pub first-end : (test : ℕ → Bool) (n i : ℕ) → i ≤ n → n ≤ i → ((
 first-end test n i most least before =
     let all : i ≡ n = omega arith in
     all ∙ sym (first-none test n (λ k l. before k (omega arith)))
-
--- A search that has stopped where the test holds, at one of the places or after them all.
-pub first-stop : (test : ℕ → Bool) (n i : ℕ) → i ≤ n → ((k : ℕ) → k < i → test k ≡ false) → test i ≡ true → i ≡ first test n
-first-stop test n i most before here = go (decLt i n)
-  where
-    go : Dec (i < n) → i ≡ first test n
-    go (yes l) = sym (first-is test n i l before here)
-    go (no l) = first-end test n i most (omega arith) before
 
 -- Before the first place the test does not hold.
 pub before-first : (test : ℕ → Bool) (n : ℕ) (k : ℕ) → k < first test n → test k ≡ false

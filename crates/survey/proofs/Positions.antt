@@ -1,13 +1,14 @@
 -- Where rows stand: the row after the walls, and what lies beyond a table. Assumes nothing.
-use mathlib.Core.Path.{_≡_, sym, ap, _∙_}
-use mathlib.Core.Bool.{true, false, not}
+use mathlib.Core.Path.{_≡_, sym, subst, _∙_}
+use mathlib.Core.Bool.{Bool, true, false, not}
 use mathlib.Core.List.{List}
 use Prim.Native.Nat.{ℕ, _+_, _-_, _*_, _<_, _≤_}
 use native.Mathlib.Decide.{decLt}
 use native.Mathlib.Omega.{arith}
+use lib.Dec.{T}
 use lib.ListN.{length, List·getD-eq-default}
-use borrow.Author.Tests.{eqb-true}
-use Rattle.answer.proofs.Places.{first-stop}
+use borrow.Author.Tests.{eqb-true, not-true, not-false}
+use Rattle.answer.proofs.Places.{before-first, at-first}
 use Rattle.survey.specs.Table.{cell, storeys, endsRow, endsStorey, endsDirection, isWall, firstWall, wallRows, partsRow}
 
 -- Beyond a table every number is 0, and no row is a wall.
@@ -21,16 +22,32 @@ wall-within table row wall = go (decLt (8 * row) (length table))
     go (yes l) = l
     go (no l) = absurd (omega (arith, beyond table row 0 (omega arith), eqb-true (cell table row 0) 4 wall))
 
--- The first row after the walls, where every row from the first wall's on has been one.
-module _ (table : List ℕ) {start row : ℕ} (e : start ≡ firstWall table) where
-  pub parts-row-is : start ≤ row → row - start ≤ length table → ((k : ℕ) → k < row → start ≤ k → isWall table k ≡ true)
-      → isWall table row ≡ false → row ≡ partsRow table
+-- A row that is reached through walls alone: a wall stands before the parts row, and a row that is none is the parts row.
+module _ (table : List ℕ) (row : ℕ) (past : firstWall table ≤ row) (reached : row ≤ partsRow table) where
+  abbrev ends-at : ℕ → Bool
+  ends-at k = not (isWall table (firstWall table + k))
+
+  pub wall-before-parts : isWall table row ≡ true → row < partsRow table
   unfolding wallRows
-  parts-row-is past few before here =
-      let there : firstWall table + (row - start) ≡ row = omega arith in
-      sym there
-      ∙ ap (λ (n : ℕ). firstWall table + n)
-      (first-stop _ _ (row - start) few (λ k l. ap not (before (firstWall table + k) (omega arith) (omega arith))) (rw there (ap not here)))
+  wall-before-parts wall = go (decLt row (partsRow table))
+    where
+      go : Dec (row < partsRow table) → row < partsRow table
+      go (yes l) = l
+      go (no l) =
+          let last : firstWall table + wallRows table ≡ row = omega arith in
+          let none = at-first ends-at (length table) (omega (arith, wall-within table row wall)) in
+          absurd (subst T (sym wall ∙ not-true (isWall table row) (rw last at none)) tt)
+
+  pub parts-row-here : isWall table row ≡ false → row ≡ partsRow table
+  unfolding wallRows
+  parts-row-here none = go (decLt row (partsRow table))
+    where
+      go : Dec (row < partsRow table) → row ≡ partsRow table
+      go (yes l) =
+          let place : firstWall table + (row - firstWall table) ≡ row = omega arith in
+          let wall = before-first ends-at (length table) (row - firstWall table) (omega arith) in
+          absurd (subst T (sym (not-false (isWall table row) (rw place at wall)) ∙ none) tt)
+      go (no l) = omega arith
 
 -- The row of a storey's ends in a direction stands between the storeys and the walls, and that storey and direction are due in it.
 module _ (table : List ℕ) (storey direction : ℕ) (some : 1 ≤ storey) (one : 1 ≤ direction) (two : direction ≤ 2) where

@@ -1,8 +1,10 @@
 -- The definitions that the survey's promises and theorems cite, in document 01's order: where rows stand, what their columns may hold,
 -- which refusal is due, what an accepted table is made of, a storey's walls; and the walls of the examples.
+-- `Internal` is for the code alone.
 pub mod Table
 pub mod Ranges
 pub mod Judgement
 pub mod Acceptance
 pub mod Walls
 pub mod Worked
+pub mod Internal

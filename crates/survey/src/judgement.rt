@@ -1,14 +1,15 @@
-// A table judged: the count of its rows, or the refusal.
+// A table judged: the count of its rows, or the refusal. Its rows are gone through once, from the top: first
+// the rows before the walls, of which the house's row says how many there are; then the walls, which end at
+// the first row of another kind; then the parts row, which is the last.
 use crate::columns::STOREYS;
 use crate::fault::Fault;
-use crate::fault::fault_at;
-use crate::places::parts_row;
 use crate::rows::ends_fault;
 use crate::rows::house_fault;
 use crate::rows::parts_fault;
 use crate::rows::storey_fault;
 use crate::rows::wall_fault;
 use crate::table::cell;
+use crate::table::is_wall;
 use answer::Answer;
 use answer::ROW;
 use answer::ROW_OUT_OF_ORDER;
@@ -17,32 +18,11 @@ use answer::rows_in;
 ghost use mathlib.Core.Path.{_≡_};
 ghost use Prim.Native.Nat.{_<_, _≤_, _+_, _*_};
 ghost use lib.ListN.{length};
-ghost use Rattle.answer.specs.Told.{told, refusal};
+ghost use Rattle.answer.specs.Told.{told, refusal, row-out-of-order};
 ghost use Rattle.answer.specs.Length.{mostRows};
-ghost use Rattle.survey.specs.Table.{cell, partsRow};
+ghost use Rattle.survey.specs.Table.{cell, firstWall, partsRow};
 ghost use Rattle.survey.specs.Judgement.{rowFault, judging};
-
-// The fault of a row after the house's, by the place where it stands.
-fn row_fault(table: &[u32], storeys: usize, parts: usize, row: usize) -> Fault
-    requires rows { ⌜ (storeys ≡ cell (now table) 0 1) × (storeys ≤ 3) × (parts ≡ partsRow (now table)) × (0 < row) ⌝ }
-    requires place { ⌜ 8 * row + 8 ≤ length (now table) ⌝ }
-    ensures { λ r. ⌜ r ≡ rowFault (now (table .entry)) row ⌝ }
-{
-    if row <= storeys {
-        return storey_fault(table, row);
-    }
-    let first = 3 * storeys + 1;
-    if row < first {
-        return ends_fault(table, storeys, row);
-    }
-    if row < parts {
-        return wall_fault(table, storeys as u32, first, row);
-    }
-    if row == parts {
-        return parts_fault(table, row);
-    }
-    fault_at(ROW_OUT_OF_ORDER, 1)
-}
+ghost use Rattle.survey.specs.Internal.{Passed};
 
 // The refusal of a row, counted from 0, by its fault.
 fn refused(found: Fault, row: usize) -> Answer
@@ -54,6 +34,70 @@ fn refused(found: Fault, row: usize) -> Answer
         row: row as u32 + 1,
         column: found.column,
     }
+}
+
+// The refusal of a row, counted from 0, that is missing or stands after the last that is due.
+fn out_of_order(row: usize) -> Answer
+    requires { ⌜ row ≤ mostRows ⌝ }
+    ensures { λ r. ⌜ told r ≡ refusal row-out-of-order (row + 1) 1 ⌝ }
+{
+    Answer::Refused {
+        number: ROW_OUT_OF_ORDER,
+        row: row as u32 + 1,
+        column: 1,
+    }
+}
+
+// Judges the rest of a table whose rows before the parts row have no fault. `row` is the parts row.
+fn judge_parts(table: &[u32], rows: usize, row: usize) -> Answer
+    requires passed { ⌜ Passed (now table) rows row ⌝ }
+    requires row { ⌜ row ≡ partsRow (now table) ⌝ }
+    ensures { λ r. ⌜ told r ≡ judging (now (table .entry)) ⌝ }
+{
+    if row == rows {
+        return out_of_order(row);
+    }
+    let found = parts_fault(table, row);
+    if 0 < found.number {
+        return refused(found, row);
+    }
+    let after = row + 1;
+    if after < rows {
+        return out_of_order(after);
+    }
+    let count = rows as u32;
+    Answer::Count(count)
+}
+
+// Judges the rest of a table whose rows before the walls have no fault. `first` is the first wall's row.
+// Where the walls end is learned on the way: a scan for the parts row up front would go through them twice.
+fn judge_walls(table: &[u32], storeys: usize, rows: usize, first: usize) -> Answer
+    requires storeys { ⌜ (storeys ≡ cell (now table) 0 1) × (storeys ≤ 3) ⌝ }
+    requires passed { ⌜ Passed (now table) rows first ⌝ }
+    requires first { ⌜ first ≡ firstWall (now table) ⌝ }
+    ensures { λ r. ⌜ told r ≡ judging (now (table .entry)) ⌝ }
+{
+    let mut row = first;
+    while is_wall(table, row) {
+        let found = wall_fault(table, storeys as u32, first, row);
+        if 0 < found.number {
+            return refused(found, row);
+        }
+        row += 1;
+    }
+    judge_parts(table, rows, row)
+}
+
+// The fault of a row between the house's and the walls, by the place where it stands.
+fn fault_before_walls(table: &[u32], storeys: usize, row: usize) -> Fault
+    requires rows { ⌜ (storeys ≡ cell (now table) 0 1) × (storeys ≤ 3) × (0 < row) × (row ≤ 3 * storeys) ⌝ }
+    requires place { ⌜ 8 * row + 8 ≤ length (now table) ⌝ }
+    ensures { λ r. ⌜ r ≡ rowFault (now (table .entry)) row ⌝ }
+{
+    if row <= storeys {
+        return storey_fault(table, row);
+    }
+    ends_fault(table, storeys, row)
 }
 
 // Judges any table: the count of its rows, or the refusal.
@@ -73,18 +117,16 @@ pub fn judge(table: &[u32]) -> Answer
         return refused(house, 0);
     }
     let storeys = cell(table, 0, STOREYS) as usize;
-    let parts = parts_row(table);
     let mut row = 1;
-    while row < rows {
-        let found = row_fault(table, storeys, parts, row);
+    while row <= 3 * storeys {
+        if row == rows {
+            return out_of_order(row);
+        }
+        let found = fault_before_walls(table, storeys, row);
         if 0 < found.number {
             return refused(found, row);
         }
         row += 1;
     }
-    if rows <= parts {
-        return refused(fault_at(ROW_OUT_OF_ORDER, 1), rows);
-    }
-    let count = rows as u32;
-    Answer::Count(count)
+    judge_walls(table, storeys, rows, row)
 }
