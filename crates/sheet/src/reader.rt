@@ -18,12 +18,15 @@ ghost use Prim.Native.Nat.{_<_, _≤_, _*_};
 ghost use lib.ListN.{length};
 ghost use Rattle.answer.specs.Told.{told};
 ghost use Rattle.answer.specs.First.{first};
-ghost use Rattle.answer.specs.Length.{mostRows, rowsIn};
+ghost use Rattle.answer.specs.Length.{rowsIn};
 ghost use Rattle.answer.specs.Lists.{over};
 ghost use Rattle.sheet.specs.Sheet.{misprinted, numbersOf, reading, afterReading};
 
 // How many places of a line can be misprinted: its fields, then its last byte.
 const PLACES: usize = ROW + 1;
+
+// The most lines of a short sheet. A house of two storeys with 56 walls has as many.
+const SHORT_SHEET: usize = 64;
 
 // Reads one line into the numbers of a row. Answers its leftmost misprinted place, from 0, or 9 where
 // there is none.
@@ -86,7 +89,7 @@ fn put_numbers(numbers: &[u32], table: &mut [u32])
 // read, since a refusal changes none of the table.
 fn read_whole(sheet: &[u8], lines: usize, numbers: &mut [u32], table: &mut [u32]) -> Answer
     requires lines { ⌜ (lines ≡ rowsIn 65 (length (now sheet))) × (0 < lines) × (8 * lines ≤ length (now table)) ⌝ }
-    requires numbers { ⌜ length (now numbers) ≡ 8 * mostRows ⌝ }
+    requires numbers { ⌜ 8 * lines ≤ length (now numbers) ⌝ }
     ensures answer { λ r. ⌜ told r ≡ reading (now (sheet .entry)) (length (now (table .entry))) ⌝ }
     ensures table { λ _. ⌜ now (table .exit) ≡ afterReading (now (sheet .entry)) (now (table .entry)) ⌝ }
 {
@@ -99,7 +102,8 @@ fn read_whole(sheet: &[u8], lines: usize, numbers: &mut [u32], table: &mut [u32]
 }
 
 // Reads a sheet into a lent table: the count of rows written, or the refusal. Numbers after them
-// stay, and a refusal changes none.
+// stay, and a refusal changes none. The numbers' own room is cleared at every call, which takes time, so
+// a short sheet is given less of it.
 pub fn read(sheet: &[u8], table: &mut [u32]) -> Answer
     ensures answer { λ r. ⌜ told r ≡ reading (now (sheet .entry)) (length (now (table .entry))) ⌝ }
     ensures table { λ _. ⌜ now (table .exit) ≡ afterReading (now (sheet .entry)) (now (table .entry)) ⌝ }
@@ -111,6 +115,10 @@ pub fn read(sheet: &[u8], table: &mut [u32]) -> Answer
     let lent = table.len();
     if lent < ROW * lines {
         return refused(LENT_SPACE_SHORT);
+    }
+    if lines <= SHORT_SHEET {
+        let mut numbers = [0u32; ROW * SHORT_SHEET];
+        return read_whole(sheet, lines, &mut numbers, table);
     }
     let mut numbers = [0u32; MOST_NUMBERS];
     read_whole(sheet, lines, &mut numbers, table)

@@ -48,6 +48,18 @@ same-length c = search needs
 returns-3 : tie.Need-returns-3
 returns-3 c = search needs
 
+slice-aggregate-read-whole-2 : tie.Need-slice-aggregate-read-whole-2
+slice-aggregate-read-whole-2 c = search needs
+
+read-whole-requires-2 : tie.Need-read-whole-requires-2
+read-whole-requires-2 c κs = (search needs, omega (arith, whole (c .before .before .before .before)))
+
+same-length-2 : tie.Need-same-length-2
+same-length-2 c = search needs
+
+returns-4 : tie.Need-returns-4
+returns-4 c = search needs
+
 pub read-spec : {M : Type 1} → statement M
 read-spec =
     tie.close
@@ -61,4 +73,8 @@ read-spec =
     slice-aggregate-read-whole
     read-whole-requires
     same-length
-    returns-3)
+    returns-3
+    slice-aggregate-read-whole-2
+    read-whole-requires-2
+    same-length-2
+    returns-4)

@@ -23,7 +23,7 @@ read-lines-requires : tie.Need-read-lines-requires
 read-lines-requires c κs =
     let at-entry = c .before .before .before .before in
     let lines = whole (at-entry .pre .0 .0) (at-entry .pre .0 .1) in
-    (omega (arith, lines), omega (arith, lines, at-entry .pre .1))
+    (omega (arith, lines), at-entry .pre .1)
 
 mul-if1 : tie.Need-mul-if1
 mul-if1 c = search needs
@@ -57,7 +57,7 @@ part-put-numbers-end : tie.Need-part-put-numbers-end
 part-put-numbers-end c =
     let at-lines = c .before .before .before .before in
     let at-entry = at-lines .before .before .before .before .before in
-    rw (at-lines .read-lines .kept .1 .1 .0) (omega (arith, whole (at-entry .pre .0 .0) (at-entry .pre .0 .1), at-entry .pre .1))
+    rw (at-lines .read-lines .kept .1 .1 .0) (at-entry .pre .1)
 
 put-numbers-requires : tie.Need-put-numbers-requires
 put-numbers-requires c κs = search needs
