@@ -34,13 +34,13 @@ p1 =
     ∷ 5 ∷ 8191 ∷ 8 ∷ 0 ∷ 0 ∷ 0 ∷ 0 ∷ 0
     ∷ []
 
--- A house of two storeys, by the five numbers that may differ in demand 3. Its four scores differ from each other, and so do the two ends of its
--- ground storey in X: end b is smaller, and its part has one storey.
+-- A house of two storeys, by the five numbers that may differ in demand 3. Its four scores differ from each other, and so do its storeys' areas
+-- and the two ends of its ground storey in X: end b is smaller, and its part has one storey.
 abbrev pub twoStoreys : ℕ → ℕ → ℕ → ℕ → ℕ → List ℕ
 twoStoreys weight zone ground age marked =
     1 ∷ 2 ∷ weight ∷ zone ∷ ground ∷ 1 ∷ age ∷ 0
     ∷ 2 ∷ 1 ∷ 4000 ∷ 5000 ∷ 1 ∷ 0 ∷ 0 ∷ 0
-    ∷ 2 ∷ 2 ∷ 4000 ∷ 5000 ∷ 1 ∷ 0 ∷ 0 ∷ 0
+    ∷ 2 ∷ 2 ∷ 3000 ∷ 5000 ∷ 1 ∷ 0 ∷ 0 ∷ 0
     ∷ 3 ∷ 1 ∷ 1 ∷ 1000 ∷ 800 ∷ 2 ∷ 1 ∷ 0
     ∷ 3 ∷ 1 ∷ 2 ∷ 1000 ∷ 1000 ∷ 2 ∷ 2 ∷ 0
     ∷ 3 ∷ 2 ∷ 1 ∷ 1000 ∷ 1000 ∷ 2 ∷ 2 ∷ 0

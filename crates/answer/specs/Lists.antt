@@ -1,4 +1,4 @@
--- Lists that are joined, parts of a list, and storage that is written from its front. Every layer describes by them what it reads and writes.
+-- Lists that are joined, parts of a list, and storage that is written from its front. Sheets, tables and reports are described by them.
 use Prim.Native.Nat.{ℕ, zero, suc, _*_}
 use mathlib.Core.List.{List, [], _++_}
 use lib.ListN.{length, take, drop}

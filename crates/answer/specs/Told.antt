@@ -25,7 +25,7 @@ abbrev pub told : Answer → Told
 told (Count n) = counted n
 told (Refused number row column) = refusal number row column
 
--- An answer that is no refusal: its number is 0, which is the number of no refusal (`reading-by-number` and its like).
+-- An answer that is no refusal. It goes by the number: no refusal that is told is numbered 0 (`reading-by-number` and its like).
 abbrev pub accepts : Told → Bool
 accepts a = eqb (a .number) 0
 

@@ -21,7 +21,7 @@ module _ (table : List ℕ) (h : judging table .number ≡ 0) where
   storeys-few = a .house-inside 1 (omega arith)
 
   pub stands : Stands table
-  stands = record { accepted = h; some = storeys-few .0; few = storeys-few .1; long = omega (arith, a .sizes); zoned = accepted-zone a .1 }
+  stands = record { accepted = h; some = storeys-few .0; few = storeys-few .1; long = omega (arith, a .sizes); zone-most = accepted-zone a .1 }
 
   -- No storey needs more than `method` computes a score with.
   pub required-within : {storey : ℕ} → 1 ≤ storey → storey ≤ storeys table → required table storey ≤ mostRequired

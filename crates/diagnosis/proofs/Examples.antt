@@ -203,38 +203,38 @@ module _ (weight zone ground age marked : ℕ) (accepted : Judged (twoStoreys we
       ∷ []
 
 -- From what they hold on all is computed.
-pub sound-figures : figures sound ≡ (131 ∷ 200 ∷ 262 ∷ 187 ∷ []) ∷ (188 ∷ 200 ∷ 262 ∷ 187 ∷ []) ∷ sameBands ∷ []
+pub sound-figures : figures sound ≡ (131 ∷ 200 ∷ 350 ∷ 250 ∷ []) ∷ (188 ∷ 200 ∷ 350 ∷ 250 ∷ []) ∷ sameBands ∷ []
 unfolding endRequired required requiredOf narrow deterioration storeyFloorType wallRows first nth topLine constant groundFactor narrowFactor requiredStrength reached band floorType layoutFactor points countedMarks factorOf deteriorationFactor score
 sound-figures = by-walls 1 90 1 1 2048 (two-judged .0)
 
-pub heavy-figures : figures heavy ≡ (103 ∷ 157 ∷ 183 ∷ 131 ∷ []) ∷ (147 ∷ 157 ∷ 183 ∷ 131 ∷ []) ∷ sameBands ∷ []
+pub heavy-figures : figures heavy ≡ (103 ∷ 157 ∷ 244 ∷ 174 ∷ []) ∷ (147 ∷ 157 ∷ 244 ∷ 174 ∷ []) ∷ sameBands ∷ []
 unfolding sound-figures
 heavy-figures = by-walls 2 90 1 1 2048 (two-judged .1)
 
-pub zone-figures : figures zone100 ≡ (118 ∷ 180 ∷ 236 ∷ 168 ∷ []) ∷ (169 ∷ 180 ∷ 236 ∷ 168 ∷ []) ∷ sameBands ∷ []
+pub zone-figures : figures zone100 ≡ (118 ∷ 180 ∷ 315 ∷ 225 ∷ []) ∷ (169 ∷ 180 ∷ 315 ∷ 225 ∷ []) ∷ sameBands ∷ []
 unfolding sound-figures
 zone-figures = by-walls 1 100 1 1 2048 (two-judged .2)
 
-pub soft-ground-figures : figures softGround ≡ (87 ∷ 133 ∷ 175 ∷ 125 ∷ []) ∷ (125 ∷ 133 ∷ 175 ∷ 125 ∷ []) ∷ sameBands ∷ []
+pub soft-ground-figures : figures softGround ≡ (87 ∷ 133 ∷ 233 ∷ 166 ∷ []) ∷ (125 ∷ 133 ∷ 233 ∷ 166 ∷ []) ∷ sameBands ∷ []
 unfolding sound-figures
 soft-ground-figures = by-walls 1 90 2 1 2048 (two-judged .3)
 
-pub over-ten-figures : figures overTen ≡ (126 ∷ 192 ∷ 251 ∷ 179 ∷ []) ∷ (180 ∷ 192 ∷ 251 ∷ 179 ∷ []) ∷ sameBands ∷ []
+pub over-ten-figures : figures overTen ≡ (126 ∷ 192 ∷ 335 ∷ 239 ∷ []) ∷ (180 ∷ 192 ∷ 335 ∷ 239 ∷ []) ∷ sameBands ∷ []
 unfolding sound-figures
 over-ten-figures = by-walls 1 90 1 2 2048 (two-judged .4)
 
-pub more-marks-figures : figures moreMarks ≡ (104 ∷ 158 ∷ 208 ∷ 148 ∷ []) ∷ (149 ∷ 158 ∷ 208 ∷ 148 ∷ []) ∷ sameBands ∷ []
+pub more-marks-figures : figures moreMarks ≡ (104 ∷ 158 ∷ 277 ∷ 198 ∷ []) ∷ (149 ∷ 158 ∷ 277 ∷ 198 ∷ []) ∷ sameBands ∷ []
 unfolding sound-figures
 more-marks-figures = by-walls 1 90 1 1 2056 (two-judged .5)
 
-pub all-worse-figures : figures allWorse ≡ (38 ∷ 74 ∷ 87 ∷ 62 ∷ []) ∷ (70 ∷ 74 ∷ 87 ∷ 62 ∷ []) ∷ sameBands ∷ []
+pub all-worse-figures : figures allWorse ≡ (38 ∷ 74 ∷ 116 ∷ 82 ∷ []) ∷ (70 ∷ 74 ∷ 116 ∷ 82 ∷ []) ∷ sameBands ∷ []
 unfolding sound-figures
 all-worse-figures = by-walls 2 100 2 2 2056 (two-judged .6)
 
 -- The records of the best and the worst of them, and where a record has the score of a storey and direction.
 pub worsened-records :
-    (recordOf sound ≡ record { scores = 131 ∷ 200 ∷ 262 ∷ 187 ∷ 0 ∷ 0 ∷ []; count = 4; verdict = 2 })
-    × (recordOf allWorse ≡ record { scores = 38 ∷ 74 ∷ 87 ∷ 62 ∷ 0 ∷ 0 ∷ []; count = 4; verdict = 4 })
+    (recordOf sound ≡ record { scores = 131 ∷ 200 ∷ 350 ∷ 250 ∷ 0 ∷ 0 ∷ []; count = 4; verdict = 2 })
+    × (recordOf allWorse ≡ record { scores = 38 ∷ 74 ∷ 116 ∷ 82 ∷ 0 ∷ 0 ∷ []; count = 4; verdict = 4 })
     × (_≡_ {A = List ℕ} (scoreAt 1 1 ∷ scoreAt 1 2 ∷ scoreAt 2 1 ∷ scoreAt 2 2 ∷ scoreAt 3 1 ∷ scoreAt 3 2 ∷ []) (0 ∷ 1 ∷ 2 ∷ 3 ∷ 4 ∷ 5 ∷ []))
 unfolding recordOf over houseVerdict leastScore leastOf verdict
 worsened-records =

@@ -101,13 +101,13 @@ worsened = pairs.worsened
 
 -- Their scores fall, with the layout factor and before it, and their better ends keep their bands.
 pub worsened-figures :
-    (figures sound ≡ (131 ∷ 200 ∷ 262 ∷ 187 ∷ []) ∷ (188 ∷ 200 ∷ 262 ∷ 187 ∷ []) ∷ sameBands ∷ [])
-    × (figures heavy ≡ (103 ∷ 157 ∷ 183 ∷ 131 ∷ []) ∷ (147 ∷ 157 ∷ 183 ∷ 131 ∷ []) ∷ sameBands ∷ [])
-    × (figures zone100 ≡ (118 ∷ 180 ∷ 236 ∷ 168 ∷ []) ∷ (169 ∷ 180 ∷ 236 ∷ 168 ∷ []) ∷ sameBands ∷ [])
-    × (figures softGround ≡ (87 ∷ 133 ∷ 175 ∷ 125 ∷ []) ∷ (125 ∷ 133 ∷ 175 ∷ 125 ∷ []) ∷ sameBands ∷ [])
-    × (figures overTen ≡ (126 ∷ 192 ∷ 251 ∷ 179 ∷ []) ∷ (180 ∷ 192 ∷ 251 ∷ 179 ∷ []) ∷ sameBands ∷ [])
-    × (figures moreMarks ≡ (104 ∷ 158 ∷ 208 ∷ 148 ∷ []) ∷ (149 ∷ 158 ∷ 208 ∷ 148 ∷ []) ∷ sameBands ∷ [])
-    × (figures allWorse ≡ (38 ∷ 74 ∷ 87 ∷ 62 ∷ []) ∷ (70 ∷ 74 ∷ 87 ∷ 62 ∷ []) ∷ sameBands ∷ [])
+    (figures sound ≡ (131 ∷ 200 ∷ 350 ∷ 250 ∷ []) ∷ (188 ∷ 200 ∷ 350 ∷ 250 ∷ []) ∷ sameBands ∷ [])
+    × (figures heavy ≡ (103 ∷ 157 ∷ 244 ∷ 174 ∷ []) ∷ (147 ∷ 157 ∷ 244 ∷ 174 ∷ []) ∷ sameBands ∷ [])
+    × (figures zone100 ≡ (118 ∷ 180 ∷ 315 ∷ 225 ∷ []) ∷ (169 ∷ 180 ∷ 315 ∷ 225 ∷ []) ∷ sameBands ∷ [])
+    × (figures softGround ≡ (87 ∷ 133 ∷ 233 ∷ 166 ∷ []) ∷ (125 ∷ 133 ∷ 233 ∷ 166 ∷ []) ∷ sameBands ∷ [])
+    × (figures overTen ≡ (126 ∷ 192 ∷ 335 ∷ 239 ∷ []) ∷ (180 ∷ 192 ∷ 335 ∷ 239 ∷ []) ∷ sameBands ∷ [])
+    × (figures moreMarks ≡ (104 ∷ 158 ∷ 277 ∷ 198 ∷ []) ∷ (149 ∷ 158 ∷ 277 ∷ 198 ∷ []) ∷ sameBands ∷ [])
+    × (figures allWorse ≡ (38 ∷ 74 ∷ 116 ∷ 82 ∷ []) ∷ (70 ∷ 74 ∷ 116 ∷ 82 ∷ []) ∷ sameBands ∷ [])
 worsened-figures = (
   examples.sound-figures,
   examples.heavy-figures,
@@ -120,8 +120,8 @@ worsened-figures = (
 
 -- The verdict goes from 2 to 4, as the theorem says that it gets no better. These are the places of a record.
 pub worsened-records :
-    (recordOf sound ≡ record { scores = 131 ∷ 200 ∷ 262 ∷ 187 ∷ 0 ∷ 0 ∷ []; count = 4; verdict = 2 })
-    × (recordOf allWorse ≡ record { scores = 38 ∷ 74 ∷ 87 ∷ 62 ∷ 0 ∷ 0 ∷ []; count = 4; verdict = 4 })
+    (recordOf sound ≡ record { scores = 131 ∷ 200 ∷ 350 ∷ 250 ∷ 0 ∷ 0 ∷ []; count = 4; verdict = 2 })
+    × (recordOf allWorse ≡ record { scores = 38 ∷ 74 ∷ 116 ∷ 82 ∷ 0 ∷ 0 ∷ []; count = 4; verdict = 4 })
     × (_≡_ {A = List ℕ} (scoreAt 1 1 ∷ scoreAt 1 2 ∷ scoreAt 2 1 ∷ scoreAt 2 2 ∷ scoreAt 3 1 ∷ scoreAt 3 2 ∷ []) (0 ∷ 1 ∷ 2 ∷ 3 ∷ 4 ∷ 5 ∷ []))
 worsened-records = examples.worsened-records
 

@@ -78,7 +78,7 @@ endRequired table storey direction end = requiredOf table (endPart table storey 
 
 -- Layout factor
 
--- The band of an end by its sufficiency, "its solid walls' held strength over its required strength".
+-- The two numbers of an end's sufficiency, "its solid walls' held strength over its required strength"; and its band.
 abbrev pub endStrengths : List ℕ → ℕ → ℕ → ℕ → Strengths
 endStrengths table storey direction end =
     record { held = endHeld table storey direction end; required = endRequired table storey direction end }

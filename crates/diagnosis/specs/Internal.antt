@@ -1,4 +1,4 @@
--- What only the code needs. No promise to callers and no theorem rests on these.
+-- What only the code needs. No promise to callers and no theorem is stated with these.
 use mathlib.Core.Path.{_≡_}
 use mathlib.Core.Bool.{cond}
 use mathlib.Core.List.{List, [], _∷_, _++_}
@@ -25,20 +25,20 @@ use Rattle.diagnosis.specs.Report.{resultRow, verdictRow}
 
 -- Premises
 
--- The table is accepted. What the code goes by of that: one to three storeys; a row of the house, three rows a storey and one of parts at
--- least; a zone of at most 100.
+-- The table is accepted. From that follows what the code needs: it has one to three storeys, it is at least as long as the rows that are due
+-- without walls (the house's, three for each storey, the parts'), and its zone is at most 100.
 pub record Stands (table : List ℕ) : Type 0 where
   pub accepted : judging table .number ≡ 0
   pub some : 1 ≤ storeys table
   pub few : storeys table ≤ 3
   pub long : 8 * (3 * storeys table + 2) ≤ length table
-  pub zoned : zone table ≤ 100
+  pub zone-most : zone table ≤ 100
 
 -- The table is accepted, and this is what its house row says.
 pub record HouseOf (table : List ℕ) (house : House) : Type 0 where
   pub stands : Stands table
   pub row : house ≡ houseOf table
-  pub counted : house .storeys ≡ storeys table
+  pub storeys-same : house .storeys ≡ storeys table
 
 -- The sums over a storey's walls
 
@@ -80,7 +80,7 @@ storeyAt at = at / 2 + 1
 abbrev pub directionAt : ℕ → ℕ
 directionAt at = at % 2 + 1
 
--- Six values of which the first `count` are f's, and the others `none`.
+-- What stands in a place, where the first `count` places are filled by f and the others with `none`; and six such places.
 abbrev pub filled : {A : Type 0} → ℕ → A → (ℕ → A) → ℕ → A
 filled count none f at = cond (ltb at count) (f at) none
 
@@ -136,7 +136,7 @@ houseAssessmentWith table holds = record {
 abbrev pub houseAssessment : List ℕ → HouseAssessment
 houseAssessment table = houseAssessmentWith table (allHeld (houseSums table))
 
--- The record of what is worked out: six numbers of one kind, their count, and the verdict.
+-- What is worked out for a place; six numbers of one kind; and the record: the scores, their count, and the verdict.
 abbrev pub assessmentIn : HouseAssessment → ℕ → Assessment
 assessmentIn found at = getD (found .places) at noAssessment
 

@@ -84,6 +84,12 @@ worked =
     ∷ verdict 149
     ∷ verdict 150
     ∷ jointFactor (house 2 1 100 1 2) 1 (wall 1 2 40 1000)  -- 000: strength 4.0, joint II, foundation II, ground storey of two
+    ∷ jointFactor (house 3 1 100 1 3) 2 (wall 1 1 70 1000)  -- "The middle storey of three uses foundation 1": joint I, strength 7.0, foundation III
+    ∷ jointFactor (house 3 1 100 1 3) 1 (wall 1 1 70 1000)  -- its ground storey
+    ∷ jointFactor (house 3 1 100 1 3) 3 (wall 1 2 30 1000)  -- its top storey, joint II, strength 3.0
+    ∷ jointFactor (house 1 1 100 1 2) 1 (wall 1 2 50 1000)  -- one storey, foundation II, joint II, strength 5.0
+    ∷ jointFactor (house 1 1 100 1 2) 1 (wall 1 4 50 1000)  -- "In one storey joints 3 and 4 share a row"
+    ∷ wallShare (house 1 1 100 1 1) 1 (wall 3 0 0 2000)  -- a full-height opening of 2,000 mm
     ∷ constant (housePart 1 1 4000) 1  -- "one storey 28, 40"
     ∷ constant (housePart 1 1 4000) 2
     ∷ constant (housePart 1 2 4000) 1  -- "two storeys, ground 83, 106"
@@ -171,6 +177,12 @@ expected =
     ∷ 2
     ∷ 1
     ∷ 85  -- 000: 0.85
+    ∷ 100  -- joint factors
+    ∷ 60
+    ∷ 80
+    ∷ 70
+    ∷ 50
+    ∷ 600_000
     ∷ 28  -- constants
     ∷ 40
     ∷ 83

@@ -3,13 +3,12 @@
 -- theorems of the round trip applied to P1, which meets their premises. Assumes nothing.
 use mathlib.Core.Path.{_≡_, refl, ap}
 use mathlib.Core.List.{[], _∷_, _++_}
-use Prim.Native.Nat.{_+_, _*_, _-_}
 use native.Mathlib.Omega.{arith}
 use lib.ListN.{replicate}
 use Rattle.answer.specs.Houses.{p1, p1Sheet}
 use Rattle.answer.specs.Told.{Told, counted, refusal}
 use Rattle.answer.specs.First.{first}
-use Rattle.answer.specs.Length.{mostRows, rowsIn}
+use Rattle.answer.specs.Length.{rowsIn}
 use Rattle.answer.specs.Text.{bytes}
 use Rattle.answer.specs.Lists.{joined, part, over}
 use Rattle.sheet.specs.Field.{digitAfter, after, field, isNumber, value, digitOrSpace, printed}
@@ -25,9 +24,8 @@ pub largest-field : (printed 99_999_999 ≡ bytes "99999999")
 unfolding printed digitOrSpace field after digitAfter
 largest-field = (refl, refl, refl)
 
--- A sheet of the most lines, and one of a line more. Both refusals come before any character is judged.
-pub longest-sheet : (reading (replicate (65 * mostRows) 32) (8 * mostRows - 1) ≡ refusal 9 0 0)
-    × (reading (replicate (65 * (mostRows + 1)) 32) (8 * (mostRows + 1)) ≡ refusal 1 0 0)
+-- The longest sheet has 311 lines, and needs 2,488 numbers. Both refusals come before any character is judged.
+pub longest-sheet : (reading (replicate 20_215 32) 2_487 ≡ refusal 9 0 0) × (reading (replicate 20_280 32) 2_496 ≡ refusal 1 0 0)
 unfolding reading rowsIn
 longest-sheet = (refl, refl)
 

@@ -4,7 +4,7 @@
 -- Told.antt, Length.antt, Text.antt and Houses.antt of crates/answer/specs/. Assumes nothing.
 use mathlib.Core.Path.{_≡_}
 use mathlib.Core.List.{List, _++_}
-use Prim.Native.Nat.{ℕ, _+_, _-_, _*_, _/_, _<_, _≤_}
+use Prim.Native.Nat.{ℕ, _*_, _/_, _<_, _≤_}
 use lib.Dec.{eqb}
 use lib.ListN.{length, drop, replicate}
 use Rattle.answer.specs.Told.{counted, refusal, lent-space-short}
@@ -42,9 +42,8 @@ read-rest = round-trip.read-rest
 pub never-short : (sheet : List ℕ) (lent : ℕ) → 8 * mostRows ≤ lent → reading sheet lent .number ≡ lent-space-short → ⊥
 never-short = answers.never-short
 
--- For a sheet of the most lines, eight numbers a line less one are too few; a sheet of a line more is refusal 1.
-pub longest-sheet : (reading (replicate (65 * mostRows) 32) (8 * mostRows - 1) ≡ refusal 9 0 0)
-    × (reading (replicate (65 * (mostRows + 1)) 32) (8 * (mostRows + 1)) ≡ refusal 1 0 0)
+-- The longest sheet has 311 lines, 20,215 bytes, for which 2,487 numbers are one too few; a line more is refusal 1.
+pub longest-sheet : (reading (replicate 20_215 32) 2_487 ≡ refusal 9 0 0) × (reading (replicate 20_280 32) 2_496 ≡ refusal 1 0 0)
 longest-sheet = examples.longest-sheet
 
 -- Writing. After a table that is accepted, the bytes that were written stand at the front, and the bytes after them stay.

@@ -1,4 +1,4 @@
--- What only the code needs. No promise to callers and no theorem rests on these.
+-- What only the code needs. No promise to callers and no theorem is stated with these.
 use mathlib.Core.Path.{_≡_}
 use mathlib.Core.Bool.{false}
 use mathlib.Core.List.{List}
@@ -7,7 +7,7 @@ use lib.ListN.{length}
 use Rattle.answer.specs.Length.{Whole}
 use Rattle.survey.specs.Judgement.{faulty, rowFault}
 
--- Judging a table of so many whole rows has come as far as a row: none before it has a fault.
+-- A table of so many whole rows has been judged as far as a row: no row before it has a fault.
 pub record Passed (table : List ℕ) (rows row : ℕ) : Type 0 where
   pub size : Whole 8 (length table) rows
   pub reached : row ≤ rows

@@ -5,8 +5,8 @@ use crate::table::is_wall;
 ghost use mathlib.Core.Path.{_≡_};
 ghost use Rattle.survey.specs.Table.{partsRow};
 
-// The row after the walls, from 0, where the parts are due. Any table will do: where rows are missing,
-// it lies beyond the table.
+// The row after the walls, from 0, where the parts are due. Any table will do: where the table ends before
+// it, it lies beyond the table.
 pub fn parts_row(table: &[u32]) -> usize
     ensures { λ r. ⌜ r ≡ partsRow (now (table .entry)) ⌝ }
 {

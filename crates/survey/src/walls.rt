@@ -52,7 +52,7 @@ fn run_length(table: &[u32], storey: u32, start: usize) -> usize
 }
 
 // The first unbroken run of a storey's wall rows, in any table. In a table that is accepted these are all
-// walls of the storey, so a caller that has judged the table already need not have it judged again.
+// the walls of the storey, so a caller that has judged the table already need not have it judged again.
 pub fn storey_run(table: &[u32], storey: u32) -> &[u32]
     ensures { λ r. ⌜ now r ≡ storeyRun (now (table .entry)) storey ⌝ }
 {

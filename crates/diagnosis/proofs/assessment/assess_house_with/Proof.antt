@@ -90,7 +90,7 @@ returns c =
     let at-loop = c .before in
     let start = at-loop .before .before .before .before in
     let all : at-loop .loop .at ≡ 2 * start .args .house .storeys = omega arith in
-    rw (at-loop .loop .inv .2, at-loop .loop .inv .3, all, start .pre .0 .counted, at-loop .before .deterioration .ensures)
+    rw (at-loop .loop .inv .2, at-loop .loop .inv .3, all, start .pre .0 .storeys-same, at-loop .before .deterioration .ensures)
 
 pub assess-house-with-spec : {M : Type 1} → statement M
 assess-house-with-spec =

@@ -28,7 +28,7 @@ returns c =
     record {
       stands = at-1 .before .before .pre;
       row = rw (at-1 .cell .ensures, at-3 .before .cell2 .ensures, at-3 .cell3 .ensures, c .before .cell4 .ensures, c .cell5 .ensures);
-      counted = at-1 .cell .ensures;
+      storeys-same = at-1 .cell .ensures;
     }
 
 pub house-of-spec : {M : Type 1} → statement M

@@ -11,7 +11,7 @@ use Rattle.diagnosis.proofs.strengths.storey_sums.Tie as tie
 returns : tie.Need-returns
 unfolding sumsIn
 returns c =
-    let lacks = lt-leb _ _ (rw (c .before .before .before .pre .counted) at (c .if1 .taken)) in
+    let lacks = lt-leb _ _ (rw (c .before .before .before .pre .storeys-same) at (c .if1 .taken)) in
     (rw lacks, rw lacks)
 
 storey-run-requires : tie.Need-storey-run-requires
@@ -26,7 +26,7 @@ returns-2 : tie.Need-returns-2
 unfolding sumsIn
 returns-2 c =
     let start = c .before .before .before .before .before in
-    let has = le-leb _ _ (rw (start .pre .counted) at (c .before .before .if1 .left)) in
+    let has = le-leb _ _ (rw (start .pre .storeys-same) at (c .before .before .if1 .left)) in
     let walls = c .before .storey-run .ensures ∙ run-is-walls _ (start .pre .stands .accepted) _ in
     (rw has (c .sums-over .ensures .0 ∙ sums-whole _ _ 1 (start .pre .row) walls), rw has (c .sums-over .ensures .1 ∙ sums-whole _ _ 2 (start .pre .row) walls))
 
