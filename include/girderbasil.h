@@ -9,7 +9,7 @@
  * What the caller has to see to, as with any C function: a pointer is aligned for its type and stands for as
  * many elements as the length beside it says, and storage that is lent to be filled overlaps no other
  * argument. With length 0 the pointer may be null. A call takes some 10 KB of stack at most, and one of
- * diagnose, which holds a table of its own, some 21 KB; in the first call the system may need more, to load
+ * diagnose, which holds a table of its own, some 23 KB; in the first call the system may need more, to load
  * memcpy.
  *
  * Link libgirderbasil.a: target/staticlib/ has it for x86-64 after `rt staticlib girderbasil`, and
