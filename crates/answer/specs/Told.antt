@@ -1,7 +1,6 @@
 -- What an answer tells. Document 01, "What a refused sheet is told".
 use Prim.Native.Nat.{ℕ}
 use mathlib.Core.Bool.{Bool, true, false}
-use lib.Dec.{eqb}
 use Rattle.answer.specs.declared.Answer.{Answer}
 use Rattle.answer.specs.declared.Answer.the-variants.{Count, Refused}
 
@@ -25,9 +24,9 @@ abbrev pub told : Answer → Told
 told (Count n) = counted n
 told (Refused number row column) = refusal number row column
 
--- An answer that is no refusal. It goes by the number: no refusal that is told is numbered 0 (`reading-by-number` and its like).
+-- An answer that is no refusal.
 abbrev pub accepts : Told → Bool
-accepts a = eqb (a .number) 0
+accepts a = a .counts
 
 -- The numbers, by the trade's word for each.
 abbrev pub sheet-length : ℕ

@@ -7,11 +7,12 @@ use Prim.Native.Nat.{ℕ, zero, suc, _+_, _*_, _<_, _≤_}
 use native.Mathlib.Omega.{arith}
 use lib.ListN.{length, getD}
 use lib.Dec.{ltb}
-use borrow.Author.Tests.{le-leb, eq-eqb}
+use borrow.Author.Tests.{le-leb}
 use Rattle.answer.specs.Told.{counted, refusal, accepts, lent-space-short}
 use Rattle.answer.specs.Lists.{joined, over}
 use Rattle.survey.specs.Table.{storeys}
 use Rattle.survey.specs.Judgement.{judging}
+use Rattle.survey.proofs.RefusalNumbers.{judging-accepts}
 use Rattle.method.specs.Held.{mostHeld}
 use Rattle.method.specs.Score.{cappedScore}
 use Rattle.method.proofs.Fractions.{deterioration-bounded}
@@ -89,13 +90,13 @@ module _ (table : List ℕ) (h : judging table .number ≡ 0) where
 
   pub report-answer : (lent : ℕ) → reportingBy (houseAssessment table) lent ≡ reporting table lent
   unfolding reportingBy reporting
-  report-answer lent = rw (count-is, eq-eqb (judging table .number) 0 h)
+  report-answer lent = rw (count-is, judging-accepts table h)
 
   pub report-after : (report : List ℕ) → afterReportingBy (houseAssessment table) report ≡ afterReporting table report
   unfolding afterReportingBy afterReporting reporting
   report-after report =
       (λ i. cond (ltb (length report) (65 * (count-is i + 1))) report (over report (report-bytes i)))
-      ∙ rw (eq-eqb (judging table .number) 0 h) (go (ltb (length report) (65 * reportLines table)))
+      ∙ rw (judging-accepts table h) (go (ltb (length report) (65 * reportLines table)))
     where
       go : (short : Bool) → cond short report (over report (reportBytes table))
           ≡ cond (accepts (cond short (refusal lent-space-short 0 0) (counted (65 * reportLines table)))) (over report (reportBytes table)) report

@@ -7,20 +7,19 @@ use native.Mathlib.Nat.{le-refl}
 use native.Mathlib.Omega.{arith}
 use lib.Dec.{T, eqb, ltb, lit≤}
 use lib.ListN.{length, take, replicate}
-use borrow.Author.Tests.{ne-eqb, eqb-true, eqb-false, ltb-true, ltb-false}
+use borrow.Author.Tests.{ltb-true, ltb-false}
 use Rattle.answer.specs.declared.Answer.{Answer}
 use Rattle.answer.specs.declared.Answer.the-variants.{Count, Refused}
 use Rattle.answer.specs.Told.{Told, told, counted, refusal, accepts, lent-space-short}
 use Rattle.answer.specs.Length.{rowsIn}
 use Rattle.answer.specs.Lists.{joined, part, over}
 use Rattle.answer.proofs.Lists.{over-length, over-front}
-use Rattle.answer.proofs.Refusals.{either-by-number, refused-number}
+use Rattle.answer.proofs.Refusals.{either-by-number, refused-told, refused-first}
 use Rattle.sheet.specs.Sheet.{reading, afterReading, linesOf, afterPrinting}
 use Rattle.sheet.proofs.Sheets.{numbers-length, line-length, lines-length, printing-rows}
-use Rattle.sheet.proofs.Answers.{Readable, accepted-readable, readable-accepted, never-short, reading-by-number, read-refused, read-accepted}
+use Rattle.sheet.proofs.Answers.{Readable, accepted-readable, readable-accepted, never-short, reading-by-number, read-accepted}
 use Rattle.survey.specs.Judgement.{judging}
-use Rattle.survey.proofs.RefusalNumbers.{judging-known, judging-by-number}
-use Rattle.survey.proofs.Acceptance.{judge-refused}
+use Rattle.survey.proofs.RefusalNumbers.{judging-known, judging-by-number, accepted-number}
 use Rattle.diagnosis.specs.Program.{mostNumbers, tableOf, diagnosing, afterDiagnosing, mostReportBytes, output, outputBytes}
 use Rattle.diagnosis.specs.Report.{reportRows, reportLines, reportBytes, reporting, afterReporting, refusalRow, refusalLine}
 use Rattle.diagnosis.proofs.AcceptedTables.{storeys-few}
@@ -29,9 +28,7 @@ use Rattle.diagnosis.proofs.AcceptedTables.{storeys-few}
 pub report-refused : (table lent : List ℕ) (answer : Answer) {number row column : ℕ} → told answer ≡ judging table → answer ≡ Refused number row column
     → (told answer ≡ reporting table (length lent)) × (lent ≡ afterReporting table lent)
 unfolding reporting afterReporting
-report-refused table lent answer judged e =
-    let refused = ne-eqb (judging table .number) 0 (judge-refused table judged e) in
-    (rw refused judged, rw (refused, refused))
+report-refused table lent answer judged e = refused-first (judging table) _ _ lent judged e
 
 -- An answer to diagnosing a sheet into lent bytes, and these afterwards.
 abbrev Diagnosed : List ℕ → List ℕ → Told → List ℕ → Type 0
@@ -41,9 +38,7 @@ module _ (sheet table lent : List ℕ) {answer : Answer} (long : length table �
   -- A sheet that cannot be read.
   pub diagnose-refused : {number row column : ℕ} → answer ≡ Refused number row column → Diagnosed sheet lent (told answer) lent
   unfolding diagnosing afterDiagnosing
-  diagnose-refused e =
-      let refused = rw long at (read-refused sheet table read e) in
-      (rw refused (rw long at read), rw (refused, refused))
+  diagnose-refused e = refused-first (reading sheet mostNumbers) _ _ lent (rw long at read) e
 
   -- One that can: its rows are its table.
   module _ {rows : ℕ} (e : answer ≡ Count rows) where
@@ -99,9 +94,9 @@ module _ (sheet : List ℕ) (lent : ℕ) where
   abbrev needed : ℕ
   needed = 65 * reportLines (tableOf sheet)
 
-  by-way-out : (P : Told → Type 0) → ((reading sheet mostNumbers .number ≡ 0 → ⊥) → P (reading sheet mostNumbers))
-      → ((judging (tableOf sheet) .number ≡ 0 → ⊥) → P (judging (tableOf sheet)))
-      → (judging (tableOf sheet) .number ≡ 0 → lent < needed → P (refusal lent-space-short 0 0)) → (needed ≤ lent → P (counted needed))
+  by-way-out : (P : Told → Type 0) → (accepts (reading sheet mostNumbers) ≡ false → P (reading sheet mostNumbers))
+      → (accepts (judging (tableOf sheet)) ≡ false → P (judging (tableOf sheet)))
+      → (accepts (judging (tableOf sheet)) ≡ true → lent < needed → P (refusal lent-space-short 0 0)) → (needed ≤ lent → P (counted needed))
       → P (diagnosing sheet lent)
   unfolding diagnosing reporting
   by-way-out P unread refused short written =
@@ -109,10 +104,10 @@ module _ (sheet : List ℕ) (lent : ℕ) where
     where
       go : (a : Bool) → accepts (reading sheet mostNumbers) ≡ a → (b : Bool) → accepts (judging (tableOf sheet)) ≡ b → (c : Bool) → ltb lent needed ≡ c
           → P (cond a (cond b (cond c (refusal lent-space-short 0 0) (counted needed)) (judging (tableOf sheet))) (reading sheet mostNumbers))
-      go true r true j true l = short (eqb-true (judging (tableOf sheet) .number) 0 j) (ltb-true lent needed l)
+      go true r true j true l = short j (ltb-true lent needed l)
       go true r true j false l = written (ltb-false lent needed l)
-      go true r false j c l = refused (eqb-false (judging (tableOf sheet) .number) 0 j)
-      go false r b j c l = unread (eqb-false (reading sheet mostNumbers .number) 0 r)
+      go true r false j c l = refused j
+      go false r b j c l = unread r
 
   -- 9 is told only where the report needs more bytes than were lent, and no report needs more than 455.
   pub short-only : diagnosing sheet lent .number ≡ lent-space-short → (lent < needed) × (needed ≤ 455)
@@ -121,7 +116,7 @@ module _ (sheet : List ℕ) (lent : ℕ) where
       (λ answer. answer .number ≡ lent-space-short → (lent < needed) × (needed ≤ 455))
       (λ r e. absurd (never-short sheet mostNumbers (le-refl mostNumbers) e))
       (λ j e. absurd (omega (arith, judging-known (tableOf sheet), e)))
-      (λ j l e. (l, omega (arith, storeys-few (tableOf sheet) j)))
+      (λ j l e. (l, omega (arith, storeys-few (tableOf sheet) (accepted-number (tableOf sheet) j))))
       (λ l e. absurd (omega arith))
 
   -- Where it is accepted the report fits.
@@ -129,8 +124,8 @@ module _ (sheet : List ℕ) (lent : ℕ) where
   report-room =
       by-way-out
       (λ answer. accepts answer ≡ true → needed ≤ lent)
-      (λ r e. absurd (r (eqb-true (reading sheet mostNumbers .number) 0 e)))
-      (λ j e. absurd (j (eqb-true (judging (tableOf sheet) .number) 0 e)))
+      (λ r e. absurd (subst T (sym e ∙ r) tt))
+      (λ j e. absurd (subst T (sym e ∙ j) tt))
       (λ j l e. absurd (subst T (sym e) tt))
       (λ l e. l)
 
@@ -140,14 +135,14 @@ module _ (sheet : List ℕ) (lent : ℕ) where
     diagnosed-count {count} e =
         by-way-out
         (λ answer. counted count ≡ answer → (accepts answer ≡ true) × (count ≡ needed) × (count ≤ lent))
-        (λ r e. absurd (r (sym (ap (λ (t : Told). t .number) e))))
-        (λ j e. absurd (j (sym (ap (λ (t : Told). t .number) e))))
+        (λ r e. absurd (subst T (ap accepts e ∙ r) tt))
+        (λ j e. absurd (subst T (ap accepts e ∙ j) tt))
         (λ j l e. absurd (omega (arith, ap (λ (t : Told). t .number) e)))
         (λ l e. (refl, omega (arith, ap (λ (t : Told). t .count) e), omega (arith, ap (λ (t : Told). t .count) e)))
         (sym (ap told e) ∙ diagnosed)
 
     pub diagnosed-refusal : {number row column : ℕ} → answer ≡ Refused number row column → accepts (diagnosing sheet lent) ≡ false
-    diagnosed-refusal e = refused-number diagnosed (diagnosing-by-number sheet lent) e
+    diagnosed-refusal e = refused-told diagnosed e
 
 -- One row printed.
 refusal-line : (number row column : ℕ) → linesOf 1 (refusalRow number row column) ≡ refusalLine number row column

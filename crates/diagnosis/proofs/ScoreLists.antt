@@ -8,12 +8,12 @@ use native.Mathlib.Decide.{decLt}
 use native.Mathlib.Omega.{arith}
 use lib.ListN.{length, getD, drop, List·getD-append}
 use lib.Dec.{eqb}
-use borrow.Author.Tests.{eq-eqb}
 use Rattle.answer.specs.Told.{Told, accepts}
 use Rattle.answer.specs.Lists.{joined, over}
 use Rattle.answer.proofs.Lists.{joined-length, joined-part, part-at}
 use Rattle.survey.specs.Table.{storeys}
 use Rattle.survey.specs.Judgement.{judging}
+use Rattle.survey.proofs.RefusalNumbers.{judging-by-number, judging-accepts}
 use Rattle.method.proofs.Comparisons.{score-most}
 use Rattle.diagnosis.specs.declared.scores.Outcome.{Outcome}
 use Rattle.diagnosis.specs.declared.scores.Outcome.the-variants.{Scored, Refused}
@@ -73,7 +73,7 @@ told-result (Refused number row column) result = refl
 pub record-told : (table : List ℕ) (a : Scoring) → judging table .number ≡ 0 → toldScoring a ≡ scoring table → a .result ≡ recordOf table
 unfolding scoring
 record-told table a h e =
-    sym (told-result (a .outcome) (a .result)) ∙ ap (λ (x : ToldScoring). x .result) e ∙ rw (eq-eqb (judging table .number) 0 h)
+    sym (told-result (a .outcome) (a .result)) ∙ ap (λ (x : ToldScoring). x .result) e ∙ rw (judging-accepts table h)
 
 -- A table is scored just where the refusal's number is 0.
 pub scored-by-number : (table : List ℕ) → scoring table .scored ≡ eqb (scoring table .number) 0
@@ -87,7 +87,7 @@ scored-by-number table = go (accepts (judging table)) refl
         → (cond accepted (toldOutcome Scored (recordOf table)) (toldOutcome (Refused (judged .number) (judged .row) (judged .column)) noRecord)) .scored
         ≡ eqb ((cond accepted (toldOutcome Scored (recordOf table)) (toldOutcome (Refused (judged .number) (judged .row) (judged .column)) noRecord)) .number) 0
     go true e = refl
-    go false e = sym e
+    go false e = sym e ∙ judging-by-number table
 
 -- The storey and direction of a place among the scores.
 pub in-house-at : (table : List ℕ) (i : ℕ) → i < 2 * storeys table → InHouse table (i / 2 + 1) (i % 2 + 1)

@@ -21,7 +21,7 @@ use Rattle.method.proofs.Shares.{mostShare, share-most, held-none, held-more, h
 use Rattle.diagnosis.specs.declared.strengths.HeldSums.{HeldSums}
 use Rattle.diagnosis.specs.Rows.{houseOf, endA, endB, wallOf}
 use Rattle.diagnosis.specs.House.{share, inDirection, solidAtEnd, held, endHeld}
-use Rattle.diagnosis.specs.Internal.{WallsFit, sumsOver, withWall, heldSums, noSums}
+use Rattle.diagnosis.specs.Internal.{WallsFit, sumsOver, Addable, withWall, heldSums, noSums}
 
 -- What a wall adds to a sum is at most what it counts.
 pub added-most : (takes : Bool) {counted most : ℕ} → counted ≤ most → cond takes counted 0 ≤ most
@@ -92,10 +92,10 @@ module _ (house : House) (storey : ℕ) (walls : List ℕ) where
 
     -- What adding a wall asks for.
     pub wall-ready : (direction row : ℕ) {sums : HeldSums} {counted : ℕ} → row < length walls / 8 → sums ≡ sumsOver house storey walls direction row
-        → counted ≡ counts row → (counted ≤ mostHeld) × ((sums .all ≤ mostHeld) × (sums .a ≤ mostHeld) × (sums .b ≤ mostHeld))
+        → counted ≡ counts row → Addable sums counted
     wall-ready direction row inside e count =
         let most : (takes : ℕ → Bool) → sum takes row ≤ mostHeld = λ takes. sum-most takes row (omega arith) in
-        (rw count (le-trans (share-small row inside) (lit≤ tt)), (rw e (most _), rw e (most _), rw e (most _)))
+        record { all-most = rw e (most _); a-most = rw e (most _); b-most = rw e (most _); counted-most = rw count (le-trans (share-small row inside) (lit≤ tt)) }
 
 -- An accepted table's walls of a storey fit, so it holds no more than that.
 module _ (table : List ℕ) (h : judging table .number ≡ 0) (storey : ℕ) where

@@ -12,6 +12,7 @@ use Rattle.sheet.specs.Sheet.{linesOf}
 use Rattle.survey.specs.Table.{storeys}
 use Rattle.survey.specs.Judgement.{judging}
 use Rattle.method.specs.declared.rows.House.{House}
+use Rattle.method.specs.declared.deterioration.Fraction.{Fraction}
 use Rattle.method.specs.Held.{heldStrength, mostHeld}
 use Rattle.method.specs.Required.{mostRequired}
 use Rattle.method.specs.Score.{verdict}
@@ -20,7 +21,7 @@ use Rattle.diagnosis.specs.declared.assessment.Assessment.{Assessment}
 use Rattle.diagnosis.specs.declared.assessment.HouseAssessment.{HouseAssessment}
 use Rattle.diagnosis.specs.declared.scores.Record.{Record}
 use Rattle.diagnosis.specs.Rows.{zone, houseOf, endA, endB, wallOf}
-use Rattle.diagnosis.specs.House.{share, inDirection, solidAtEnd, held, endHeld, deterioration, leastOf, assessmentWith}
+use Rattle.diagnosis.specs.House.{InHouse, share, inDirection, solidAtEnd, held, endHeld, narrow, deterioration, leastOf, assessmentWith}
 use Rattle.diagnosis.specs.Report.{resultRow, verdictRow}
 
 -- Premises
@@ -40,6 +41,18 @@ pub record HouseOf (table : List ℕ) (house : House) : Type 0 where
   pub row : house ≡ houseOf table
   pub storeys-same : house .storeys ≡ storeys table
 
+-- An end of a storey of that house in a direction, 0 for end a and 1 for end b;
+pub record EndOf (table : List ℕ) (house : House) (storey direction end : ℕ) : Type 0 where
+  pub house-of : HouseOf table house
+  pub in-house : InHouse table storey direction
+  pub either : end ≤ 1
+
+-- and its storey's narrow factor and what its solid walls hold, which are given.
+pub record EndGiven (table : List ℕ) (house : House) (storey direction end factor holds : ℕ) : Type 0 where
+  pub end-of : EndOf table house storey direction end
+  pub narrow-is : factor ≡ narrow table storey
+  pub holds-is : holds ≡ endHeld table storey direction end
+
 -- The sums over a storey's walls
 
 -- The walls are no more than a house may have, and none is longer than a wall may be.
@@ -54,6 +67,13 @@ sumsOver house storey walls direction n = record {
   a = heldStrength (solidAtEnd walls direction endA) (share house storey walls) n;
   b = heldStrength (solidAtEnd walls direction endB) (share house storey walls) n;
 }
+
+-- Such sums, and what a wall counts, that can be added up: none is above 60,000 kN.
+pub record Addable (sums : HeldSums) (counted : ℕ) : Type 0 where
+  pub all-most : sums .all ≤ mostHeld
+  pub a-most : sums .a ≤ mostHeld
+  pub b-most : sums .b ≤ mostHeld
+  pub counted-most : counted ≤ mostHeld
 
 -- Such sums with one wall more, by its row and by what it counts.
 abbrev pub withWall : List ℕ → ℕ → ℕ → HeldSums → HeldSums
@@ -110,6 +130,13 @@ pub record SumsFit (table : List ℕ) (sums : HeldSums) (storey direction : ℕ)
 
 abbrev pub AllFit : List ℕ → List HeldSums → Type 0
 AllFit table sums = (at : ℕ) → at < 2 * storeys table → SumsFit table (getD sums at noSums) (storeyAt at) (directionAt at)
+
+-- A storey and direction of an accepted table's house that can be worked out by sums and a deterioration factor that are given.
+pub record Assessable (table : List ℕ) (house : House) (storey direction : ℕ) (sums : HeldSums) (factor : Fraction) : Type 0 where
+  pub house-of : HouseOf table house
+  pub in-house : InHouse table storey direction
+  pub sums-fit : SumsFit table sums storey direction
+  pub factor-is : factor ≡ deterioration table
 
 -- What each storey and direction holds in all, by such sums.
 abbrev pub allHeld : List HeldSums → ℕ → ℕ

@@ -21,9 +21,9 @@ use method::score;
 use survey::cell;
 use survey::columns::AGE;
 ghost use mathlib.Core.Path.{_≡_};
-ghost use Prim.Native.Nat.{_≤_, min};
-ghost use Rattle.diagnosis.specs.House.{InHouse, endHeld, narrow, endBand, deterioration, assessmentWith};
-ghost use Rattle.diagnosis.specs.Internal.{Stands, HouseOf, SumsFit, AllFit, allHeld, houseAssessmentWith, houseAssessment};
+ghost use Prim.Native.Nat.{min};
+ghost use Rattle.diagnosis.specs.House.{endBand, deterioration, assessmentWith};
+ghost use Rattle.diagnosis.specs.Internal.{Stands, HouseOf, EndGiven, Assessable, AllFit, allHeld, houseAssessmentWith, houseAssessment};
 
 // Held strength in 0.000001 kN, required strength in 0.000000001 kN, layout factor in hundredths, score.
 pub struct Assessment {
@@ -63,11 +63,7 @@ fn end_band(
     factor: u8,
     holds: u64,
 ) -> u32
-    requires house { ⌜ HouseOf (now table) house ⌝ }
-    requires storey { ⌜ InHouse (now table) storey direction ⌝ }
-    requires end { ⌜ end ≤ 1 ⌝ }
-    requires factor { ⌜ factor ≡ narrow (now table) storey ⌝ }
-    requires holds { ⌜ holds ≡ endHeld (now table) storey direction end ⌝ }
+    requires { ⌜ EndGiven (now table) house storey direction end factor holds ⌝ }
     ensures { λ r. ⌜ r ≡ endBand (now (table .entry)) storey direction end ⌝ }
 {
     let part = end_part(table, house, storey, direction, end);
@@ -86,10 +82,7 @@ fn assess(
     sums: HeldSums,
     factor: Fraction,
 ) -> Assessment
-    requires house { ⌜ HouseOf (now table) house ⌝ }
-    requires storey { ⌜ InHouse (now table) storey direction ⌝ }
-    requires sums { ⌜ SumsFit (now table) sums storey direction ⌝ }
-    requires factor { ⌜ factor ≡ deterioration (now table) ⌝ }
+    requires { ⌜ Assessable (now table) house storey direction sums factor ⌝ }
     ensures { λ r. ⌜ r ≡ assessmentWith (now (table .entry)) (sums .all) storey direction ⌝ }
 {
     let row = storey_of(table, storey);

@@ -27,8 +27,7 @@ use survey::parts_row;
 ghost use mathlib.Core.Path.{_≡_};
 ghost use Prim.Native.Nat.{_≤_};
 ghost use Rattle.diagnosis.specs.Rows.{storeyOf, storeyPart, endPart, wallOf, itemsOf};
-ghost use Rattle.diagnosis.specs.House.{InHouse};
-ghost use Rattle.diagnosis.specs.Internal.{Stands, HouseOf};
+ghost use Rattle.diagnosis.specs.Internal.{Stands, HouseOf, EndOf};
 
 // The house row of an accepted table.
 pub(crate) fn house_of(table: &[u32]) -> House
@@ -77,9 +76,7 @@ pub(crate) fn end_part(
     direction: usize,
     end: usize,
 ) -> HousePart
-    requires house { ⌜ HouseOf (now table) house ⌝ }
-    requires storey { ⌜ InHouse (now table) storey direction ⌝ }
-    requires end { ⌜ end ≤ 1 ⌝ }
+    requires { ⌜ EndOf (now table) house storey direction end ⌝ }
     ensures { λ r. ⌜ r ≡ endPart (now (table .entry)) storey direction end ⌝ }
 {
     let storeys = house.storeys as usize;

@@ -12,9 +12,8 @@ ghost use mathlib.Core.Path.{_≡_};
 ghost use mathlib.Core.Bool.{cond};
 ghost use Prim.Native.Nat.{_≤_, _/_};
 ghost use lib.ListN.{length};
-ghost use Rattle.method.specs.Held.{mostHeld};
 ghost use Rattle.diagnosis.specs.House.{inDirection, solidAtEnd};
-ghost use Rattle.diagnosis.specs.Internal.{HouseOf, WallsFit, sumsOver, withWall, sumsIn, houseSums};
+ghost use Rattle.diagnosis.specs.Internal.{HouseOf, WallsFit, sumsOver, Addable, withWall, sumsIn, houseSums};
 
 // The type of a solid wall.
 const SOLID: u32 = 1;
@@ -71,8 +70,7 @@ fn added(takes: bool, counted: u64) -> u64
 // The sums of a direction with one wall more, by what that wall counts. An opening counts towards the whole
 // alone.
 fn with_wall(wall: &[u32], direction: u32, counted: u64, sums: HeldSums) -> HeldSums
-    requires counted { ⌜ counted ≤ mostHeld ⌝ }
-    requires sums { ⌜ (sums .all ≤ mostHeld) × (sums .a ≤ mostHeld) × (sums .b ≤ mostHeld) ⌝ }
+    requires { ⌜ Addable sums counted ⌝ }
     ensures { λ r. ⌜ r ≡ withWall (now (wall .entry)) direction counted sums ⌝ }
 {
     HeldSums {

@@ -1,18 +1,19 @@
 -- What reading and then writing a sheet comes to, by the two ways out of reading. Assumes nothing.
-use mathlib.Core.Path.{_≡_, refl, sym, ap, _∙_}
+use mathlib.Core.Path.{_≡_, refl, sym, ap, subst, _∙_}
 use mathlib.Core.Bool.{Bool, true, false, cond}
 use mathlib.Core.List.{List}
 use Prim.Native.Nat.{ℕ, _*_, _-_, _≤_}
 use native.Mathlib.Nat.{sub-zero}
 use native.Mathlib.Omega.{arith}
-use lib.Dec.{eqb, ltb}
+use lib.Dec.{T, ltb}
 use lib.ListN.{length, take}
-use borrow.Author.Tests.{eq-eqb, eqb-false, ltb-true, ltb-false}
+use borrow.Author.Tests.{ltb-true, ltb-false}
 use Rattle.answer.specs.Told.{Told, told, counted, refusal, accepts, lent-space-short}
 use Rattle.answer.specs.declared.Answer.{Answer}
 use Rattle.answer.specs.declared.Answer.the-variants.{Count, Refused}
+use Rattle.answer.proofs.Refusals.{refused-first}
 use Rattle.sheet.specs.Sheet.{reading, afterReading, writing, afterWriting, rowsRead}
-use Rattle.sheet.proofs.Answers.{accepted-count, read-refused, read-accepted}
+use Rattle.sheet.proofs.Answers.{accepted-count, read-accepted}
 use Rattle.sheet.proofs.RoundTrip.{read-then-write, read-then-short}
 use Rattle.run_sheets.specs.Again.{again, afterAgain}
 
@@ -20,9 +21,7 @@ module _ (sheet table : List ℕ) {answer : Answer} (read : told answer ≡ read
   pub again-refused : (bytes : List ℕ) {number row column : ℕ} → answer ≡ Refused number row column
       → (told answer ≡ again sheet (length table) (length bytes)) × (bytes ≡ afterAgain sheet (length table) bytes)
   unfolding again afterAgain
-  again-refused bytes e =
-      let refused = read-refused sheet table read e in
-      (rw refused read, rw (refused, refused))
+  again-refused bytes e = refused-first (reading sheet (length table)) _ _ bytes read e
 
   module _ {rows : ℕ} (count : answer ≡ Count rows) where
     accepted : reading sheet (length table) .number ≡ 0
@@ -45,8 +44,8 @@ module _ (sheet table : List ℕ) {answer : Answer} (read : told answer ≡ read
     unfolding again afterAgain
     again-written bytes {last} {left} e f = go (ltb (length bytes) (length sheet)) refl
       where
-        was-accepted : eqb (reading sheet (length table) .number) 0 ≡ true
-        was-accepted = eq-eqb (reading sheet (length table) .number) 0 accepted
+        was-accepted : accepts (reading sheet (length table)) ≡ true
+        was-accepted = ap accepts (read-accepted sheet table read count)
 
         e′ : last ≡ writing (rowsRead sheet table) (length bytes)
         e′ = e ∙ ap (λ (t : List ℕ). writing t (length bytes)) rows-read
@@ -79,4 +78,4 @@ again-counted sheet bytes numbers {answer} {n} e count =
     go true f false h z =
         let all : n ≡ length sheet = ap (λ (a : Told). a .count) z in
         omega (arith, ltb-false (length bytes) (length sheet) h)
-    go false f d h z = absurd (eqb-false (reading sheet numbers .number) 0 f (sym (ap (λ (a : Told). a .number) z)))
+    go false f d h z = absurd (subst T (ap accepts z ∙ f) tt)

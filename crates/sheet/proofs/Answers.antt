@@ -8,12 +8,12 @@ use lib.ListN.{length}
 use native.Mathlib.Omega.{arith}
 use borrow.Author.Tests.{eq-eqb, ne-eqb, lt-ltb, le-ltb, eqb-false, ltb-false}
 use Rattle.answer.specs.declared.Answer.{Answer}
-use Rattle.answer.specs.declared.Answer.the-variants.{Count, Refused}
+use Rattle.answer.specs.declared.Answer.the-variants.{Count}
 use Rattle.answer.specs.Told.{Told, told, counted, refusal, accepts, sheet-length, misprint, out-of-range, lent-space-short}
 use Rattle.answer.specs.First.{first}
 use Rattle.answer.specs.Length.{mostRows, rowsIn, Whole}
 use Rattle.answer.specs.Lists.{over}
-use Rattle.answer.proofs.Refusals.{passed, kept, either-by-number, refused-number}
+use Rattle.answer.proofs.Refusals.{passed, kept, either-by-number}
 use Rattle.answer.proofs.Places.{first-none, before-first}
 use Rattle.answer.proofs.Lengths.{rows-whole, rows-counted, rows-most}
 use Rattle.sheet.specs.Sheet.{refusalAt, misprinted, numbersOf, reading, afterReading, tooLarge, linesOf, writing, afterWriting}
@@ -163,13 +163,10 @@ accepted-count sheet table z =
     let answer = readable-accepted sheet table (rowsIn 65 (length sheet)) (readable .0) (readable .1) .0 in
     rw (← answer) readable
 
--- For whoever takes apart what reading answered: a refusal is none of an accepted sheet's, and a count is that sheet's.
-module _ (sheet table : List ℕ) {answer : Answer} (read : told answer ≡ reading sheet (length table)) where
-  pub read-refused : {number row column : ℕ} → answer ≡ Refused number row column → accepts (reading sheet (length table)) ≡ false
-  read-refused e = refused-number read (reading-by-number sheet (length table)) e
-
-  pub read-accepted : {rows : ℕ} → answer ≡ Count rows → reading sheet (length table) ≡ counted rows
-  read-accepted e = sym read ∙ ap told e
+-- For whoever takes apart what reading answered.
+pub read-accepted : (sheet table : List ℕ) {answer : Answer} {rows : ℕ} → told answer ≡ reading sheet (length table) → answer ≡ Count rows
+    → reading sheet (length table) ≡ counted rows
+read-accepted sheet table read e = sym read ∙ ap told e
 
 pub accepted-writable : (table : List ℕ) (lent : ℕ) → writing table lent .number ≡ 0
     → Writable table (rowsIn 8 (length table)) × (65 * rowsIn 8 (length table) ≤ lent)

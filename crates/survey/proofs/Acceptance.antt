@@ -15,7 +15,7 @@ use Rattle.answer.specs.declared.Answer.the-variants.{Count, Refused}
 use Rattle.answer.specs.Told.{Told, told, counted, refusal, sheet-length, row-out-of-order, mark-on-absent-part}
 use Rattle.answer.specs.First.{first}
 use Rattle.answer.specs.Length.{mostWalls, rowsIn, Whole}
-use Rattle.answer.proofs.Refusals.{passed, refused-number}
+use Rattle.answer.proofs.Refusals.{passed, refused-told}
 use Rattle.answer.proofs.Places.{before-first, at-first}
 use Rattle.answer.proofs.Lengths.{rows-whole}
 use Rattle.survey.specs.Table.{cell, storeys, endsStorey, firstWall, wallRows, partsRow, rowsDue}
@@ -232,7 +232,7 @@ module _ (table : List ℕ) (a : Accepted table) where
 -- The two ways out of judging.
 module _ (table : List ℕ) {answer : Answer} (judged : told answer ≡ judging table) where
   pub judge-refused : {number row column : ℕ} → answer ≡ Refused number row column → (judging table) .number ≡ 0 → ⊥
-  judge-refused e = eqb-false ((judging table) .number) 0 (refused-number judged (judging-by-number table) e)
+  judge-refused e = eqb-false ((judging table) .number) 0 (sym (judging-by-number table) ∙ refused-told judged e)
 
   pub judge-accepted : {count : ℕ} → answer ≡ Count count → ((judging table) .number ≡ 0) × (count ≡ rowsDue table)
   judge-accepted {count} e =

@@ -10,12 +10,12 @@ use mir.Facts.{and-yes}
 use lib.Dec.{T, eqb→eq}
 use lib.ListN.{length}
 use lib.Seq.{ext-getD}
-use borrow.Author.Tests.{eq-eqb}
 use Rattle.answer.proofs.Places.{first-same}
 use Rattle.answer.proofs.Parts.{part-element}
 use Rattle.survey.specs.Table.{cell, isWall, firstWall, wallRows, partsRow}
 use Rattle.survey.specs.Judgement.{judging}
 use Rattle.survey.specs.Walls.{rowsFrom, rowsWhere, isWallOf, storeyWalls}
+use Rattle.survey.proofs.RefusalNumbers.{judging-accepts}
 use Rattle.survey.proofs.StoreyWalls.{rows-length}
 
 module _
@@ -72,5 +72,5 @@ module _
         pub walls-alike : (storey : ℕ) → storeyWalls A storey ≡ storeyWalls B storey
         unfolding storeyWalls
         walls-alike storey =
-            rw (eq-eqb (judging A .number) 0 A-accepted, eq-eqb (judging B .number) 0 B-accepted, ← long)
+            rw (judging-accepts A A-accepted, judging-accepts B B-accepted, ← long)
             (where-alike storey (length A / 8) (le-refl (length A / 8)))

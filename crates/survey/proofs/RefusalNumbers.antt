@@ -1,13 +1,13 @@
 -- The numbers that judging tells: none above 8, so it never tells of lent space; and 0 only where it tells a count. Assumes nothing.
-use mathlib.Core.Path.{_≡_, refl, sym}
+use mathlib.Core.Path.{_≡_, refl, sym, _∙_}
 use mathlib.Core.Bool.{Bool, true, false, cond}
 use mathlib.Core.List.{List}
 use Prim.Native.Nat.{ℕ, _+_, _≤_}
 use native.Mathlib.Omega.{arith}
 use lib.Dec.{eqb, ltb, lit≤}
 use lib.ListN.{length}
-use borrow.Author.Tests.{ltb-true, ne-eqb}
-use Rattle.answer.specs.Told.{Told, counted, refusal, sheet-length, row-out-of-order, no-parts}
+use borrow.Author.Tests.{ltb-true, eq-eqb, ne-eqb, eqb-true}
+use Rattle.answer.specs.Told.{Told, counted, refusal, accepts, sheet-length, row-out-of-order, no-parts}
 use Rattle.answer.specs.First.{first}
 use Rattle.answer.specs.Length.{rowsIn}
 use Rattle.answer.proofs.Refusals.{ByNumber, either-by-number}
@@ -81,3 +81,13 @@ module _ (table : List ℕ) where
           let fault-is = ltb-true 0 (rowFault table row .number) (at-first (λ i. faulty (rowFault table i)) rows (ltb-true row rows e)) in
           sym (ne-eqb (rowFault table row .number) 0 (λ none. omega (arith, fault-is, none)))
       go false e = either-by-number (ltb rows (rowsDue table)) (refusal row-out-of-order (rows + 1) 1) (counted rows) refl refl
+
+  -- So a table is accepted just where the number is 0.
+  pub judging-accepts : judging table .number ≡ 0 → accepts (judging table) ≡ true
+  judging-accepts h = judging-by-number ∙ eq-eqb (judging table .number) 0 h
+
+  pub accepted-number : accepts (judging table) ≡ true → judging table .number ≡ 0
+  accepted-number h = eqb-true (judging table .number) 0 (sym judging-by-number ∙ h)
+
+  pub judging-refuses : (judging table .number ≡ 0 → ⊥) → accepts (judging table) ≡ false
+  judging-refuses h = judging-by-number ∙ ne-eqb (judging table .number) 0 h

@@ -10,7 +10,7 @@ use mir.Facts.{and-yes}
 use lib.Dec.{T, eqb→eq}
 use lib.ListN.{length, getD, take, drop}
 use lib.Seq.{take-add, drop-drop}
-use borrow.Author.Tests.{eq-eqb, ne-eqb, not-true, not-false}
+use borrow.Author.Tests.{eq-eqb, not-true, not-false}
 use Rattle.answer.specs.First.{first}
 use Rattle.answer.specs.Length.{mostWalls}
 use Rattle.answer.proofs.Parts.{lent-part, part-size, part-element}
@@ -19,6 +19,7 @@ use Rattle.survey.specs.Table.{cell, isWall, storeys, firstWall, partsRo
 use Rattle.survey.specs.Judgement.{judging}
 use Rattle.survey.specs.Walls.{rowsFrom, rowsWhere, isWallOf, storeyWalls, runStart, runLength, storeyRun}
 use Rattle.survey.specs.Acceptance.{Accepted}
+use Rattle.survey.proofs.RefusalNumbers.{judging-accepts, judging-refuses}
 use Rattle.survey.proofs.Acceptance.{accepted}
 
 -- Rows as the code lends them, from a start to an end.
@@ -176,7 +177,7 @@ module _ (table : List ℕ) (h : (judging table) .number ≡ 0) where
     -- The first run of a storey's walls is all of them.
     pub run-is-walls : storeyRun table storey ≡ storeyWalls table storey
     unfolding storeyRun storeyWalls
-    run-is-walls = rw (eq-eqb ((judging table) .number) 0 h) (sym where-run)
+    run-is-walls = rw (judging-accepts table h) (sym where-run)
 
     run-few : count ≤ mostWalls
     run-few = go (decLt 0 count)
@@ -227,7 +228,7 @@ module _ (table : List ℕ) (h : (judging table) .number ≡ 0) where
 -- Nothing is shown of a table that is refused.
 pub walls-refused : (table : List ℕ) (storey : ℕ) → ((judging table) .number ≡ 0 → ⊥) → storeyWalls table storey ≡ []
 unfolding storeyWalls
-walls-refused table storey h = rw (ne-eqb ((judging table) .number) 0 h)
+walls-refused table storey h = rw (judging-refuses table h)
 
 -- The part that the run takes lies in the table.
 pub run-start-most : (table : List ℕ) (storey : ℕ) → runStart table storey ≤ length table / 8

@@ -23,19 +23,19 @@ required-strength-requires c κs = search needs
 -- The narrow factor, by the storey's row.
 narrow-is : (c : tie.After-narrow-factor) → c .narrow-factor .result ≡ narrow (now (c .before .before .before .args .table)) (c .before .before .before .args .storey)
 unfolding narrow
-narrow-is c = c .narrow-factor .ensures ∙ rw (c .before .storey-of .ensures, c .before .before .before .pre .0 .row)
+narrow-is c = c .narrow-factor .ensures ∙ rw (c .before .storey-of .ensures, c .before .before .before .pre .house-of .row)
 
 end-band-requires : tie.Need-end-band-requires
 end-band-requires c κs =
     let at-narrow = c .before .before in
     let start = at-narrow .before .before .before in
-    (start .pre .0, (start .pre .1 .0, (omega arith, (narrow-is at-narrow, start .pre .1 .1 .0 .at-a))))
+    record { end-of = search needs; narrow-is = narrow-is at-narrow; holds-is = start .pre .sums-fit .at-a }
 
 end-band-requires-2 : tie.Need-end-band-requires-2
 end-band-requires-2 c κs =
     let at-narrow = c .before .before .before in
     let start = at-narrow .before .before .before in
-    (start .pre .0, (start .pre .1 .0, (omega arith, (narrow-is at-narrow, start .pre .1 .1 .0 .at-b))))
+    record { end-of = search needs; narrow-is = narrow-is at-narrow; holds-is = start .pre .sums-fit .at-b }
 
 floor-type-requires : tie.Need-floor-type-requires
 floor-type-requires c κs = search needs
@@ -53,7 +53,7 @@ unfolding required requiredOf
 required-is c =
     let at-narrow = c .before .before in
     let at-row = at-narrow .before in
-    c .required-strength .ensures ∙ rw (narrow-is at-narrow, c .before .storey-part .ensures, at-row .storey-of .ensures, at-row .before .before .pre .0 .row)
+    c .required-strength .ensures ∙ rw (narrow-is at-narrow, c .before .storey-part .ensures, at-row .storey-of .ensures, at-row .before .before .pre .house-of .row)
 
 -- The layout factor, by the bands of both ends and the floor type.
 layout-is : (c : tie.After-layout-factor) → let start = c .before .before .before .before .before .before .before .before .before in
@@ -68,13 +68,13 @@ returns : tie.Need-returns
 returns c =
     let at-required = c .before .before .before .before .before in
     let start = at-required .before .before .before .before .before in
-    let here = start .pre .1 .0 in
+    let here = start .pre .in-house in
     rw (
       c .score .ensures,
       required-is at-required,
       layout-is (c .before),
-      start .pre .1 .1 .1,
-      score-is _ (start .pre .0 .stands .accepted) _ _ (here .some-storey) (here .last-storey) (start .pre .1 .1 .0 .most),
+      start .pre .factor-is,
+      score-is _ (start .pre .house-of .stands .accepted) _ _ (here .some-storey) (here .last-storey) (start .pre .sums-fit .most),
     )
 
 pub assess-spec : {M : Type 1} → statement M

@@ -52,7 +52,12 @@ assess-requires c κs =
     let start = c .before .before .before .before .before .before in
     let at = c .before .before .loop .at in
     let inside : at < 2 * storeys (now (start .args .table)) = omega arith in
-    (start .pre .0, (in-house-at _ at inside, (start .pre .1 at inside, c .before .before .before .deterioration .ensures)))
+    record {
+      house-of = start .pre .0;
+      in-house = in-house-at _ at inside;
+      sums-fit = start .pre .1 at inside;
+      factor-is = c .before .before .before .deterioration .ensures;
+    }
 
 mul-places : tie.Need-mul-places Inv-loop μ-loop
 mul-places c = search needs

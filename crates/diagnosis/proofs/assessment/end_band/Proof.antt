@@ -19,7 +19,7 @@ unfolding endBand endRequired requiredOf
 returns c =
     let at-part = c .before .before in
     let start = at-part .before .before in
-    c .band .ensures ∙ rw (c .before .required-strength .ensures, at-part .end-part .ensures, start .pre .0 .row, start .pre .1 .1 .1 .0, start .pre .1 .1 .1 .1)
+    c .band .ensures ∙ rw (c .before .required-strength .ensures, at-part .end-part .ensures, start .pre .end-of .house-of .row, start .pre .narrow-is, start .pre .holds-is)
 
 pub end-band-spec : {M : Type 1} → statement M
 end-band-spec =

@@ -42,7 +42,7 @@ cell-requires-2 c κs = search needs
 returns : tie.Need-returns
 returns c =
     let start = c .before .before .before .before in
-    rw (c .before .cell .ensures, c .cell2 .ensures, start .pre .0 .storeys-same)
+    rw (c .before .cell .ensures, c .cell2 .ensures, start .pre .house-of .storeys-same)
 
 pub end-part-spec : {M : Type 1} → statement M
 end-part-spec =

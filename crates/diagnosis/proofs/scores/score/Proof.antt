@@ -1,9 +1,10 @@
 -- `diagnosis::scores::score` meets its contract: the refusal of judging, or the record. Assumes nothing.
 use mathlib.Core.Path.{sym, ap, _∙_}
-use borrow.Author.Tests.{eq-eqb, ne-eqb}
 use borrow.Author.Needs.{needs}
 use Rattle.answer.specs.Told.{told}
-use Rattle.survey.proofs.Acceptance.{judge-refused, judge-accepted}
+use Rattle.answer.proofs.Refusals.{refused-told}
+use Rattle.survey.proofs.RefusalNumbers.{judging-accepts}
+use Rattle.survey.proofs.Acceptance.{judge-accepted}
 use Rattle.diagnosis.specs.Answers.{scoring}
 use Rattle.diagnosis.proofs.AcceptedTables.{stands}
 use Rattle.diagnosis.proofs.Assessments.{record-is}
@@ -30,13 +31,13 @@ unfolding scoring
 returns c =
     let judged = c .before .before .before .judge .ensures in
     let told-so = c .before .number .given .1 in
-    rw (ne-eqb _ 0 (judge-refused _ judged told-so), sym judged ∙ ap told told-so)
+    rw (refused-told judged told-so, sym judged ∙ ap told told-so)
 
 returns-2 : tie.Need-returns-2
 unfolding scoring
 returns-2 c =
     let accepted = judge-accepted _ (c .before .before .before .before .judge .ensures) (c .before .before .enum-told .given .1) .0 in
-    rw (eq-eqb _ 0 accepted, c .record-of .ensures, c .before .assess-house .ensures, record-is _ accepted)
+    rw (judging-accepts _ accepted, c .record-of .ensures, c .before .assess-house .ensures, record-is _ accepted)
 
 pub score-spec : {M : Type 1} → statement M
 score-spec =

@@ -24,7 +24,7 @@ added-requires c κs = search needs
 add-t7 : tie.Need-add-t7
 add-t7 c =
     let start = c .before .before .before .before in
-    room (c .before .before .in-direction .result) (start .pre .1 .0) (start .pre .0) (c .before .added .ensures)
+    room (c .before .before .in-direction .result) (start .pre .all-most) (start .pre .counted-most) (c .before .added .ensures)
 
 solid-at-end-requires : tie.Need-solid-at-end-requires
 solid-at-end-requires c κs = search needs
@@ -35,7 +35,7 @@ added-requires-2 c κs = search needs
 add-t10 : tie.Need-add-t10
 add-t10 c =
     let start = c .before .before .before .before .before .before .before in
-    room (c .before .before .solid-at-end .result) (start .pre .1 .1) (start .pre .0) (c .before .added2 .ensures)
+    room (c .before .before .solid-at-end .result) (start .pre .a-most) (start .pre .counted-most) (c .before .added2 .ensures)
 
 solid-at-end-requires-2 : tie.Need-solid-at-end-requires-2
 solid-at-end-requires-2 c κs = search needs
@@ -46,7 +46,7 @@ added-requires-3 c κs = search needs
 add-t13 : tie.Need-add-t13
 add-t13 c =
     let start = c .before .before .before .before .before .before .before .before .before .before in
-    room (c .before .before .solid-at-end2 .result) (start .pre .1 .2) (start .pre .0) (c .before .added3 .ensures)
+    room (c .before .before .solid-at-end2 .result) (start .pre .b-most) (start .pre .counted-most) (c .before .added3 .ensures)
 
 returns : tie.Need-returns
 returns c =
