@@ -18,7 +18,7 @@ use Rattle.survey.proofs.StoreyWalls.{Shown, shown, rows-cell, rows-length}
 use Rattle.method.specs.declared.rows.House.{House}
 use Rattle.method.specs.Held.{heldStrength, mostHeld}
 use Rattle.method.proofs.Shares.{mostShare, share-most, held-none, held-more, held-most}
-use Rattle.diagnosis.specs.declared.strengths.HeldSums.{HeldSums}
+use Rattle.diagnosis.specs.declared.held.HeldSums.{HeldSums}
 use Rattle.diagnosis.specs.Rows.{houseOf, endA, endB, wallOf}
 use Rattle.diagnosis.specs.House.{share, inDirection, solidAtEnd, held, endHeld}
 use Rattle.diagnosis.specs.Internal.{WallsFit, sumsOver, Addable, withWall, heldSums, noSums}

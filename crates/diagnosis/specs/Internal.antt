@@ -16,7 +16,7 @@ use Rattle.method.specs.declared.deterioration.Fraction.{Fraction}
 use Rattle.method.specs.Held.{heldStrength, mostHeld}
 use Rattle.method.specs.Required.{mostRequired}
 use Rattle.method.specs.Score.{verdict}
-use Rattle.diagnosis.specs.declared.strengths.HeldSums.{HeldSums}
+use Rattle.diagnosis.specs.declared.held.HeldSums.{HeldSums}
 use Rattle.diagnosis.specs.declared.assessment.Assessment.{Assessment}
 use Rattle.diagnosis.specs.declared.assessment.HouseAssessment.{HouseAssessment}
 use Rattle.diagnosis.specs.declared.scores.Record.{Record}
@@ -45,7 +45,7 @@ pub record HouseOf (table : List ℕ) (house : House) : Type 0 where
 pub record EndOf (table : List ℕ) (house : House) (storey direction end : ℕ) : Type 0 where
   pub house-of : HouseOf table house
   pub in-house : InHouse table storey direction
-  pub either : end ≤ 1
+  pub two-ends : end ≤ 1
 
 -- and its storey's narrow factor and what its solid walls hold, which are given.
 pub record EndGiven (table : List ℕ) (house : House) (storey direction end factor holds : ℕ) : Type 0 where
@@ -68,7 +68,7 @@ sumsOver house storey walls direction n = record {
   b = heldStrength (solidAtEnd walls direction endB) (share house storey walls) n;
 }
 
--- Such sums, and what a wall counts, that can be added up: none is above 60,000 kN.
+-- Such sums and what one wall counts, none of them above 60,000 kN, so that a 64-bit number holds what they add up to.
 pub record Addable (sums : HeldSums) (counted : ℕ) : Type 0 where
   pub all-most : sums .all ≤ mostHeld
   pub a-most : sums .a ≤ mostHeld

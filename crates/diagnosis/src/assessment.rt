@@ -1,12 +1,12 @@
 // What is worked out for a house, storey by storey and direction by direction. Record and report are made
 // of it.
+use crate::held::HeldSums;
+use crate::held::house_sums;
 use crate::rows::end_part;
 use crate::rows::house_of;
 use crate::rows::items_of;
 use crate::rows::storey_of;
 use crate::rows::storey_part;
-use crate::strengths::HeldSums;
-use crate::strengths::house_sums;
 use method::Bands;
 use method::Fraction;
 use method::House;

@@ -20,7 +20,7 @@ pub struct Fraction {
 }
 
 // How many items of a mask are in a set.
-fn items(set: u32, mask: u32) -> u32
+fn count_items(set: u32, mask: u32) -> u32
     ensures { λ r. ⌜ r ≡ ones (bitAnd set mask) ⌝ }
 {
     u32::count_ones(set & mask)
@@ -30,14 +30,14 @@ fn items(set: u32, mask: u32) -> u32
 fn points_under_ten(set: u32) -> u32
     ensures { λ r. ⌜ r ≡ points itemPointsUnderTen set ⌝ }
 {
-    4 * items(set, FOUR_POINTS) + 2 * items(set, TWO_POINTS)
+    4 * count_items(set, FOUR_POINTS) + 2 * count_items(set, TWO_POINTS)
 }
 
 // The points of a set.
 fn points(set: u32) -> u32
     ensures { λ r. ⌜ r ≡ points itemPoints set ⌝ }
 {
-    points_under_ten(set) + items(set, ONE_POINT)
+    points_under_ten(set) + count_items(set, ONE_POINT)
 }
 
 // The points of the marks that count, at age 1 (under ten years) or 2 (ten or more).

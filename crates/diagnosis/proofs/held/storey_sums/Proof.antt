@@ -1,12 +1,12 @@
--- `diagnosis::strengths::storey_sums` meets its contract: the first run of a storey's walls is all of them. Assumes nothing.
+-- `diagnosis::held::storey_sums` meets its contract: the first run of a storey's walls is all of them. Assumes nothing.
 use mathlib.Core.Path.{_∙_}
 use borrow.Author.Tests.{lt-leb, le-leb}
 use Rattle.survey.proofs.StoreyWalls.{run-is-walls}
 use Rattle.diagnosis.specs.Internal.{sumsIn}
 use Rattle.diagnosis.proofs.Sums.{walls-fit, sums-whole}
 use borrow.Author.Needs.{needs}
-use Rattle.diagnosis.proofs.strengths.storey_sums.Statement.{statement}
-use Rattle.diagnosis.proofs.strengths.storey_sums.Tie as tie
+use Rattle.diagnosis.proofs.held.storey_sums.Statement.{statement}
+use Rattle.diagnosis.proofs.held.storey_sums.Tie as tie
 
 returns : tie.Need-returns
 unfolding sumsIn

@@ -1,8 +1,8 @@
--- `diagnosis::strengths::house_sums` meets its contract. Assumes nothing.
+-- `diagnosis::held::house_sums` meets its contract. Assumes nothing.
 use Rattle.diagnosis.specs.Internal.{six, houseSums}
 use borrow.Author.Needs.{needs}
-use Rattle.diagnosis.proofs.strengths.house_sums.Statement.{statement}
-use Rattle.diagnosis.proofs.strengths.house_sums.Tie as tie
+use Rattle.diagnosis.proofs.held.house_sums.Statement.{statement}
+use Rattle.diagnosis.proofs.held.house_sums.Tie as tie
 
 storey-sums-requires : tie.Need-storey-sums-requires
 storey-sums-requires c κs = search needs

@@ -1,8 +1,8 @@
--- `diagnosis::strengths::in_direction` meets its contract. Assumes nothing.
+-- `diagnosis::held::in_direction` meets its contract. Assumes nothing.
 use Rattle.diagnosis.specs.House.{inDirection}
 use borrow.Author.Needs.{needs}
-use Rattle.diagnosis.proofs.strengths.in_direction.Statement.{statement}
-use Rattle.diagnosis.proofs.strengths.in_direction.Tie as tie
+use Rattle.diagnosis.proofs.held.in_direction.Statement.{statement}
+use Rattle.diagnosis.proofs.held.in_direction.Tie as tie
 
 cell-requires : tie.Need-cell-requires
 cell-requires c κs = search needs

@@ -1,9 +1,9 @@
--- `diagnosis::strengths::solid_at_end` meets its contract: each return is one case of the three tests. Assumes nothing.
+-- `diagnosis::held::solid_at_end` meets its contract: each return is one case of the three tests. Assumes nothing.
 use borrow.Author.Tests.{eq-eqb, ne-eqb}
 use Rattle.diagnosis.specs.House.{inDirection, solidAtEnd}
 use borrow.Author.Needs.{needs}
-use Rattle.diagnosis.proofs.strengths.solid_at_end.Statement.{statement}
-use Rattle.diagnosis.proofs.strengths.solid_at_end.Tie as tie
+use Rattle.diagnosis.proofs.held.solid_at_end.Statement.{statement}
+use Rattle.diagnosis.proofs.held.solid_at_end.Tie as tie
 
 cell-requires : tie.Need-cell-requires
 cell-requires c κs = search needs

@@ -1,4 +1,4 @@
--- `diagnosis::strengths::with_wall` meets its contract: each sum with what the wall adds. Assumes nothing.
+-- `diagnosis::held::with_wall` meets its contract: each sum with what the wall adds. Assumes nothing.
 use mathlib.Core.Path.{_≡_}
 use mathlib.Core.Bool.{Bool, cond}
 use Prim.Native.Nat.{ℕ, _+_, _≤_}
@@ -8,8 +8,8 @@ use mir.Syntax.{w64}
 use borrow.Author.Needs.{needs}
 use Rattle.method.specs.Held.{mostHeld}
 use Rattle.diagnosis.proofs.Sums.{added-most}
-use Rattle.diagnosis.proofs.strengths.with_wall.Statement.{statement}
-use Rattle.diagnosis.proofs.strengths.with_wall.Tie as tie
+use Rattle.diagnosis.proofs.held.with_wall.Statement.{statement}
+use Rattle.diagnosis.proofs.held.with_wall.Tie as tie
 
 -- A sum that is within what is held has room for a wall more.
 room : {sum more counted : ℕ} (takes : Bool) → sum ≤ mostHeld → counted ≤ mostHeld → more ≡ cond takes counted 0 → Fits w64 (sum + more)

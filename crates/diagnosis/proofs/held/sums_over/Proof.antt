@@ -1,4 +1,4 @@
--- `diagnosis::strengths::sums_over` meets its contract. The loop's invariant: the sums are those over the walls before `row`. Assumes nothing.
+-- `diagnosis::held::sums_over` meets its contract. The loop's invariant: the sums are those over the walls before `row`. Assumes nothing.
 use mathlib.Core.Path.{_≡_, ap, _∙_}
 use Prim.Native.Nat.{_≤_, _-_, _/_}
 use native.Mathlib.Omega.{arith}
@@ -8,8 +8,8 @@ use Rattle.diagnosis.specs.House.{share}
 use Rattle.diagnosis.specs.Internal.{sumsOver}
 use Rattle.diagnosis.proofs.Sums.{no-walls, wall-same, wall-more, wall-ready}
 use borrow.Author.Needs.{needs}
-use Rattle.diagnosis.proofs.strengths.sums_over.Statement.{statement}
-use Rattle.diagnosis.proofs.strengths.sums_over.Tie as tie
+use Rattle.diagnosis.proofs.held.sums_over.Statement.{statement}
+use Rattle.diagnosis.proofs.held.sums_over.Tie as tie
 
 abbrev Inv-loop : tie.InvT-loop
 Inv-loop house storey walls rows x₀ y₀ row₀ x y row = (row ≤ rows) × (x ≡ sumsOver house storey walls 1 row) × (y ≡ sumsOver house storey walls 2 row)
