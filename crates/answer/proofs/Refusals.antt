@@ -12,8 +12,8 @@ use Rattle.answer.specs.Told.{Told, told, accepts}
 -- Answers that tell the same are the same. So a refusal numbered 0 tells no count, not even a count of 0.
 pub told-same : (one other : Answer) → told one ≡ told other → one ≡ other
 told-same (Count n) (Count m) e = ap Count (ap (λ (t : Told). t .count) e)
-told-same (Count n) (Refused number row column) e = absurd (subst T (ap (λ (t : Told). t .counts) e) tt)
-told-same (Refused number row column) (Count n) e = absurd (subst T (ap (λ (t : Told). t .counts) (sym e)) tt)
+told-same (Count n) (Refused number row column) e = absurd (subst T (ap (λ (t : Told). t .is-count) e) tt)
+told-same (Refused number row column) (Count n) e = absurd (subst T (ap (λ (t : Told). t .is-count) (sym e)) tt)
 told-same (Refused number row column) (Refused number′ row′ column′) e =
     rw (ap (λ (t : Told). t .number) e, ap (λ (t : Told). t .row) e, ap (λ (t : Told). t .column) e)
 
@@ -30,7 +30,7 @@ kept answer written lent e f = rw (← e, f)
 
 -- An answer that is a count just where its number is 0; and one of two such answers.
 abbrev pub ByNumber : Told → Type 0
-ByNumber answer = answer .counts ≡ eqb (answer .number) 0
+ByNumber answer = answer .is-count ≡ eqb (answer .number) 0
 
 pub either-by-number : (test : Bool) (one other : Told) → ByNumber one → ByNumber other → ByNumber (cond test one other)
 either-by-number true one other e f = e

@@ -4,20 +4,20 @@ use mathlib.Core.Bool.{Bool, true, false}
 use Rattle.answer.specs.declared.Answer.{Answer}
 use Rattle.answer.specs.declared.Answer.the-variants.{Count, Refused}
 
--- What is told, which is document 01's own word: whether the answer is a count; a refusal's number (0 where it is a count), its row and column;
--- and the count.
+-- What is told (the word is document 01's own): whether the answer is a count; a refusal's number (0 where it is a count), its row and column; and
+-- the count.
 pub record Told : Type 0 where
-  pub counts : Bool
+  pub is-count : Bool
   pub number : ℕ
   pub row : ℕ
   pub column : ℕ
   pub count : ℕ
 
 abbrev pub counted : ℕ → Told
-counted n = record { counts = true; number = 0; row = 0; column = 0; count = n }
+counted n = record { is-count = true; number = 0; row = 0; column = 0; count = n }
 
 abbrev pub refusal : ℕ → ℕ → ℕ → Told
-refusal number row column = record { counts = false; number = number; row = row; column = column; count = 0 }
+refusal number row column = record { is-count = false; number = number; row = row; column = column; count = 0 }
 
 -- The paper's number and values for each case of the code's answer.
 abbrev pub told : Answer → Told
@@ -26,7 +26,7 @@ told (Refused number row column) = refusal number row column
 
 -- An answer that is no refusal.
 abbrev pub accepts : Told → Bool
-accepts a = a .counts
+accepts a = a .is-count
 
 -- The numbers, by the trade's word for each.
 abbrev pub sheet-length : ℕ

@@ -1,10 +1,10 @@
 // What every operation on lent storage answers: a count, or a refusal with its place.
 //
-// The first layer: it uses no other crate, and the others use it. The definition `told` (specs/Told.antt) gives document 01's
-// number and values for each case, and every promise about an answer uses it. What the other layers
-// share stands here too: the limits and the rule of refusal 1 (specs/Length.antt), the first place at
-// which a test holds (specs/First.antt), lists and parts of lists (specs/Lists.antt), and the houses
-// that the examples speak of (specs/Houses.antt).
+// The first layer: it uses no other crate, and every crate that answers uses it. The definition `told`
+// (specs/Told.antt) gives document 01's number and values for each case, and every promise about an
+// answer uses it. What the other layers share stands here too: the limits and the rule of refusal 1
+// (specs/Length.antt), the first place at which a test holds (specs/First.antt), lists and parts of
+// lists (specs/Lists.antt), and the houses that the examples speak of (specs/Houses.antt).
 ghost use mathlib.Core.Path.{_≡_};
 ghost use Rattle.answer.specs.Length.{rowsIn};
 

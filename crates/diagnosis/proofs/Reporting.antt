@@ -75,14 +75,14 @@ module _ (sheet table lent : List ℕ) {answer : Answer} (long : length table �
         (r ∙ rw (taken, accepted), a ∙ rw (taken, accepted))
 
 -- An answer is a count just where its number is 0.
-pub reporting-by-number : (table : List ℕ) (lent : ℕ) → reporting table lent .counts ≡ eqb (reporting table lent .number) 0
+pub reporting-by-number : (table : List ℕ) (lent : ℕ) → reporting table lent .is-count ≡ eqb (reporting table lent .number) 0
 unfolding reporting
 reporting-by-number table lent =
     let bytes = 65 * reportLines table in
     let written = either-by-number (ltb lent bytes) (refusal lent-space-short 0 0) (counted bytes) refl refl in
     either-by-number (accepts (judging table)) _ (judging table) written (judging-by-number table)
 
-pub diagnosing-by-number : (sheet : List ℕ) (lent : ℕ) → diagnosing sheet lent .counts ≡ eqb (diagnosing sheet lent .number) 0
+pub diagnosing-by-number : (sheet : List ℕ) (lent : ℕ) → diagnosing sheet lent .is-count ≡ eqb (diagnosing sheet lent .number) 0
 unfolding diagnosing
 diagnosing-by-number sheet lent =
     let read = reading sheet mostNumbers in

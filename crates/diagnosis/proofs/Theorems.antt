@@ -52,10 +52,10 @@ pub scored-by-number : (table : List ℕ) → scoring table .scored ≡ eqb (sco
 scored-by-number = score-lists.scored-by-number
 
 -- What is told of a report, of a table's or of a sheet's, is a count just where the number is 0.
-pub reporting-by-number : (table : List ℕ) (lent : ℕ) → reporting table lent .counts ≡ eqb (reporting table lent .number) 0
+pub reporting-by-number : (table : List ℕ) (lent : ℕ) → reporting table lent .is-count ≡ eqb (reporting table lent .number) 0
 reporting-by-number = program.reporting-by-number
 
-pub diagnosing-by-number : (sheet : List ℕ) (lent : ℕ) → diagnosing sheet lent .counts ≡ eqb (diagnosing sheet lent .number) 0
+pub diagnosing-by-number : (sheet : List ℕ) (lent : ℕ) → diagnosing sheet lent .is-count ≡ eqb (diagnosing sheet lent .number) 0
 diagnosing-by-number = program.diagnosing-by-number
 
 -- Demand 3

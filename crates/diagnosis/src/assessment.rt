@@ -35,7 +35,8 @@ pub struct Assessment {
 
 // What is worked out for a house.
 pub struct HouseAssessment {
-    // By storey from the ground up, and in each storey direction X, then direction Y; all 0 where there is no such storey.
+    // By storey from the ground up, and in each storey direction X, then direction Y; all 0 where there
+    // is no such storey.
     pub places: [Assessment; 6],
     // How many of these there are: two a storey.
     pub count: u32,

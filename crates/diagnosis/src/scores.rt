@@ -10,7 +10,8 @@ ghost use Rattle.diagnosis.specs.Internal.{recordBy};
 
 // Document 01: "a record of up to six scores with the verdict".
 pub struct Record {
-    // By storey from the ground up, and in each storey direction X, then direction Y; 0 where there is no such storey.
+    // By storey from the ground up, and in each storey direction X, then direction Y; 0 where there is
+    // no such storey.
     pub scores: [u32; 6],
     // How many scores there are: two a storey.
     pub count: u32,

@@ -17,7 +17,7 @@ use Rattle.diagnosis.proofs.ScoreLists.{scored-by-number}
 
 -- An answer crosses as it is told, where it is a count just where its number is 0.
 pub answer-crosses : {crossed : HostAnswer} {answer tells : Told} → crossed ≡ hostNumbers answer → answer ≡ tells
-    → tells .counts ≡ eqb (tells .number) 0 → toldHost crossed ≡ tells
+    → tells .is-count ≡ eqb (tells .number) 0 → toldHost crossed ≡ tells
 answer-crosses crosses e by-number = ap toldHost (crosses ∙ ap hostNumbers e) ∙ rw (← by-number)
 
 refused-number : (table : List ℕ) {number row column : ℕ} {result : Record} → toldOutcome (Refused number row column) result ≡ scoring table

@@ -14,7 +14,7 @@ use Rattle.girderbasil.specs.declared.HostOutput.{HostOutput}
 -- A count or a refusal: it is a count where the number is 0.
 abbrev pub toldHost : HostAnswer → Told
 toldHost answer = record {
-  counts = eqb (answer .number) 0;
+  is-count = eqb (answer .number) 0;
   number = answer .number;
   row = answer .row;
   column = answer .column;

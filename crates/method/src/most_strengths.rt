@@ -1,4 +1,4 @@
-// The most that a storey can hold or need, and the smaller of two numbers.
+// Strengths that no storey exceeds, and the smaller of two numbers.
 ghost use mathlib.Core.Path.{_≡_};
 ghost use Prim.Native.Nat.{min};
 

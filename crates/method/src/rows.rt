@@ -2,8 +2,8 @@
 // are worked out from them. The numbers of one thing stand together, each by its name, so that a caller
 // never hands over two of a kind side by side, where one could be taken for the other.
 
-// A house, by its row: its storeys, weight class (1 light, 2 heavy, 3 very heavy), zone in hundredths, ground
-// (1 ordinary, 2 very soft) and foundation (1 to 3). Its age counts for deterioration alone.
+// A house, by its row: its storeys, weight class (1 light, 2 heavy, 3 very heavy), zone in hundredths,
+// ground (1 ordinary, 2 very soft) and foundation (1 to 3). Its age counts for deterioration alone.
 pub struct House {
     pub storeys: u32,
     pub weight: u32,
@@ -12,8 +12,8 @@ pub struct House {
     pub foundation: u32,
 }
 
-// A storey, by its row: its number from the ground up, floor area in 0.01 m², short side in mm, floor type (1 to
-// 3), and 1 if there is a void of 4 m or more, else 0.
+// A storey, by its row: its number from the ground up, floor area in 0.01 m², short side in mm, floor
+// type (1 to 3), and 1 if there is a void of 4 m or more, else 0.
 pub struct Storey {
     pub number: u32,
     pub area: u32,

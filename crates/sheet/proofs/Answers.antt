@@ -97,7 +97,7 @@ module _ (table sheet : List ℕ) {rows : ℕ} (so-many : rows ≡ rowsIn 8 (len
       writing-accepted h = (counted-writing h, rw (← counted-writing h, ← so-many))
 
 -- An answer is a count just where its number is 0.
-pub reading-by-number : (sheet : List ℕ) (lent : ℕ) → reading sheet lent .counts ≡ eqb (reading sheet lent .number) 0
+pub reading-by-number : (sheet : List ℕ) (lent : ℕ) → reading sheet lent .is-count ≡ eqb (reading sheet lent .number) 0
 unfolding reading refusalAt
 reading-by-number sheet lent =
     let lines = rowsIn 65 (length sheet) in
@@ -105,7 +105,7 @@ reading-by-number sheet lent =
     let last = either-by-number (ltb at (9 * lines)) (refusalAt misprint 9 at) (counted lines) refl refl in
     either-by-number (eqb lines 0) (refusal sheet-length 0 0) _ refl (either-by-number (ltb lent (8 * lines)) (refusal lent-space-short 0 0) _ refl last)
 
-pub writing-by-number : (table : List ℕ) (lent : ℕ) → writing table lent .counts ≡ eqb (writing table lent .number) 0
+pub writing-by-number : (table : List ℕ) (lent : ℕ) → writing table lent .is-count ≡ eqb (writing table lent .number) 0
 unfolding writing refusalAt
 writing-by-number table lent =
     let rows = rowsIn 8 (length table) in

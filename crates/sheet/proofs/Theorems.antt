@@ -52,10 +52,10 @@ pub written-rest : (table sheet : List ℕ) → writing table (length sheet) .nu
 written-rest = round-trip.written-rest
 
 -- What either is told is a count just where the number is 0, so a host can tell by the number.
-pub reading-by-number : (sheet : List ℕ) (lent : ℕ) → reading sheet lent .counts ≡ eqb (reading sheet lent .number) 0
+pub reading-by-number : (sheet : List ℕ) (lent : ℕ) → reading sheet lent .is-count ≡ eqb (reading sheet lent .number) 0
 reading-by-number = answers.reading-by-number
 
-pub writing-by-number : (table : List ℕ) (lent : ℕ) → writing table lent .counts ≡ eqb (writing table lent .number) 0
+pub writing-by-number : (table : List ℕ) (lent : ℕ) → writing table lent .is-count ≡ eqb (writing table lent .number) 0
 writing-by-number = answers.writing-by-number
 
 -- The round trip. A sheet that was read into any table is, when the rows that were read are written again, the same sheet, byte for

@@ -102,8 +102,8 @@ fn read_whole(sheet: &[u8], lines: usize, numbers: &mut [u32], table: &mut [u32]
 }
 
 // Reads a sheet into a lent table: the count of rows written, or the refusal. Numbers after them
-// stay, and a refusal changes none. The numbers' own room is cleared at every call, which takes time, so
-// a short sheet is given less of it.
+// stay, and a refusal changes none. Room for the numbers read is cleared at every call, which takes time,
+// so a short sheet is given less of it.
 pub fn read(sheet: &[u8], table: &mut [u32]) -> Answer
     ensures answer { λ r. ⌜ told r ≡ reading (now (sheet .entry)) (length (now (table .entry))) ⌝ }
     ensures table { λ _. ⌜ now (table .exit) ≡ afterReading (now (sheet .entry)) (now (table .entry)) ⌝ }

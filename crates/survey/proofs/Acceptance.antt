@@ -22,7 +22,7 @@ use Rattle.survey.specs.Table.{cell, storeys, endsStorey, firstWall, wal
 use Rattle.survey.specs.Ranges.{zone, houseColumns, storeyColumns, endsColumns, wallColumns, partsColumns}
 use Rattle.survey.specs.Judgement.{fault, none, faulty, test, _then_, columnsFault, houseFault, storeyFault, endsFault, storeyBefore, wallFault, within, partsFault, rowFault, judging}
 use Rattle.survey.specs.Acceptance.{Inside, Accepted}
-use Rattle.survey.specs.Internal.{Passed}
+use Rattle.survey.specs.Internal.{JudgedTo}
 use Rattle.survey.proofs.Faults.{not-faulty}
 use Rattle.survey.proofs.RowFaults.{ends-right, wall-right, parts-right, row-house, row-storey, row-ends, row-wall, row-parts, row-after}
 use Rattle.survey.proofs.Judging.{judging-accepted}
@@ -163,8 +163,8 @@ module _ (table : List ℕ) (h : (judging table) .number ≡ 0) where
   -- The answer counts every row.
   pub accepted-count : judging table ≡ counted (rowsDue table)
   accepted-count =
-      let passed : Passed table rows rows = record { size = right .size; reached = le-refl rows; clean = λ k l. le-ltb 0 (rowFault table k .number) (right .clean k l) } in
-      sym (judging-accepted passed refl (right .reaches)) ∙ ap counted last
+      let judged : JudgedTo table rows rows = record { size = right .size; reached = le-refl rows; clean = λ k l. le-ltb 0 (rowFault table k .number) (right .clean k l) } in
+      sym (judging-accepted judged refl (right .reaches)) ∙ ap counted last
 
 -- And the other way: a table made like that is accepted. So the record says no less than acceptance does.
 module _ (table : List ℕ) (a : Accepted table) where
@@ -226,8 +226,8 @@ module _ (table : List ℕ) (a : Accepted table) where
   pub made-accepted : judging table ≡ counted (rowsDue table)
   made-accepted =
       let rows = rowsDue table in
-      let passed : Passed table rows rows = record { size = a .sizes; reached = le-refl rows; clean = λ row l. not-faulty (rowFault table row) (all-clear row l) (le-refl 0) } in
-      sym (judging-accepted passed refl (le-refl rows))
+      let judged : JudgedTo table rows rows = record { size = a .sizes; reached = le-refl rows; clean = λ row l. not-faulty (rowFault table row) (all-clear row l) (le-refl 0) } in
+      sym (judging-accepted judged refl (le-refl rows))
 
 -- The two ways out of judging.
 module _ (table : List ℕ) {answer : Answer} (judged : told answer ≡ judging table) where

@@ -17,7 +17,7 @@ use Rattle.answer.proofs.Places.{first-is, first-none}
 use Rattle.survey.specs.declared.fault.Fault.{Fault}
 use Rattle.survey.specs.Table.{rowsDue}
 use Rattle.survey.specs.Judgement.{faulty, rowFault, judging}
-use Rattle.survey.specs.Internal.{Passed}
+use Rattle.survey.specs.Internal.{JudgedTo}
 use Rattle.survey.proofs.Faults.{not-faulty}
 
 -- Nothing lent, a row cut off, or too many rows.
@@ -26,35 +26,35 @@ unfolding judging
 judging-length table {rows} so-many none = rw (← so-many, eq-eqb rows 0 none)
 
 -- Else judging begins at the house's row.
-pub judging-begins : {table : List ℕ} {rows : ℕ} → Whole 8 (length table) rows → Passed table rows 0
+pub judging-begins : {table : List ℕ} {rows : ℕ} → Whole 8 (length table) rows → JudgedTo table rows 0
 judging-begins size = record { size = size; reached = omega arith; clean = below-none _ }
 
 -- It has come as far as a row.
-module _ {table : List ℕ} {rows row : ℕ} (passed : Passed table rows row) where
+module _ {table : List ℕ} {rows row : ℕ} (judged : JudgedTo table rows row) where
   so-many : rows ≡ rowsIn 8 (length table)
-  so-many = rows-counted 8 (passed .size .whole) (omega arith) (passed .size .most)
+  so-many = rows-counted 8 (judged .size .whole) (omega arith) (judged .size .most)
 
   some : eqb rows 0 ≡ false
-  some = ne-eqb rows 0 (λ none. omega (arith, passed .size .some))
+  some = ne-eqb rows 0 (λ none. omega (arith, judged .size .some))
 
   -- That row has a fault, or it has none, and the next row is reached.
   module _ {f : Fault} (h : row < rows) (e : f ≡ rowFault table row) where
     pub judging-fault : 0 < f .number → refusal (f .number) (row + 1) (f .column) ≡ judging table
     unfolding judging
     judging-fault some-fault =
-        rw (← so-many, some, first-is (λ i. faulty (rowFault table i)) rows row h (passed .clean) (rw (← e) (lt-ltb 0 (f .number) some-fault)), lt-ltb row rows h, e)
+        rw (← so-many, some, first-is (λ i. faulty (rowFault table i)) rows row h (judged .clean) (rw (← e) (lt-ltb 0 (f .number) some-fault)), lt-ltb row rows h, e)
 
-    pub judging-goes-on : f .number ≤ 0 → Passed table rows (row + 1)
+    pub judging-goes-on : f .number ≤ 0 → JudgedTo table rows (row + 1)
     judging-goes-on clear = record {
-      size = passed .size;
+      size = judged .size;
       reached = omega arith;
-      clean = below-more _ _ (passed .clean) (not-faulty _ e clear);
+      clean = below-more _ _ (judged .clean) (not-faulty _ e clear);
     }
 
   -- There is no such row: the table ends early, or it is whole.
   module _ (end : row ≡ rows) where
     no-fault : first (λ i. faulty (rowFault table i)) rows ≡ rows
-    no-fault = first-none (λ i. faulty (rowFault table i)) rows (λ k l. passed .clean k (omega arith))
+    no-fault = first-none (λ i. faulty (rowFault table i)) rows (λ k l. judged .clean k (omega arith))
 
     pub judging-short : row < rowsDue table → refusal row-out-of-order (row + 1) 1 ≡ judging table
     unfolding judging

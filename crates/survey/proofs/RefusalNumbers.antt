@@ -72,7 +72,7 @@ module _ (table : List ℕ) where
       go false false false fine = lit≤ tt
 
   -- What is told is a count just where the number is 0: a fault's is not.
-  pub judging-by-number : judging table .counts ≡ eqb (judging table .number) 0
+  pub judging-by-number : judging table .is-count ≡ eqb (judging table .number) 0
   unfolding judging
   judging-by-number = either-by-number (eqb rows 0) (refusal sheet-length 0 0) _ refl (go (ltb row rows) refl)
     where

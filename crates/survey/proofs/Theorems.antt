@@ -35,7 +35,7 @@ pub judging-known : (table : List ℕ) → judging table .number ≤ no-parts
 judging-known table = refusal-numbers.judging-known table
 
 -- What judging tells is a count just where the number is 0, so a host can tell by the number.
-pub judging-by-number : (table : List ℕ) → judging table .counts ≡ eqb (judging table .number) 0
+pub judging-by-number : (table : List ℕ) → judging table .is-count ≡ eqb (judging table .number) 0
 judging-by-number table = refusal-numbers.judging-by-number table
 
 -- A storey's walls. Of an accepted table the first unbroken run of a storey's wall rows is all of its walls.

@@ -8,7 +8,7 @@ use Rattle.answer.specs.Length.{Whole}
 use Rattle.survey.specs.Judgement.{faulty, rowFault}
 
 -- A table of so many whole rows has been judged as far as a row: no row before it has a fault.
-pub record Passed (table : List ℕ) (rows row : ℕ) : Type 0 where
+pub record JudgedTo (table : List ℕ) (rows row : ℕ) : Type 0 where
   pub size : Whole 8 (length table) rows
   pub reached : row ≤ rows
   pub clean : (k : ℕ) → k < row → faulty (rowFault table k) ≡ false

@@ -22,7 +22,7 @@ ghost use Rattle.answer.specs.Told.{told, refusal, row-out-of-order};
 ghost use Rattle.answer.specs.Length.{mostRows};
 ghost use Rattle.survey.specs.Table.{cell, firstWall, partsRow};
 ghost use Rattle.survey.specs.Judgement.{rowFault, judging};
-ghost use Rattle.survey.specs.Internal.{Passed};
+ghost use Rattle.survey.specs.Internal.{JudgedTo};
 
 // The refusal of a row, counted from 0, by its fault.
 fn refused(found: Fault, row: usize) -> Answer
@@ -50,7 +50,7 @@ fn out_of_order(row: usize) -> Answer
 
 // Judges the rest of a table whose rows before the parts row have no fault. `row` is the parts row.
 fn judge_parts(table: &[u32], rows: usize, row: usize) -> Answer
-    requires passed { ⌜ Passed (now table) rows row ⌝ }
+    requires judged { ⌜ JudgedTo (now table) rows row ⌝ }
     requires row { ⌜ row ≡ partsRow (now table) ⌝ }
     ensures { λ r. ⌜ told r ≡ judging (now (table .entry)) ⌝ }
 {
@@ -73,7 +73,7 @@ fn judge_parts(table: &[u32], rows: usize, row: usize) -> Answer
 // Where the walls end is learned on the way: a scan for the parts row up front would go through them twice.
 fn judge_walls(table: &[u32], storeys: usize, rows: usize, first: usize) -> Answer
     requires storeys { ⌜ (storeys ≡ cell (now table) 0 1) × (storeys ≤ 3) ⌝ }
-    requires passed { ⌜ Passed (now table) rows first ⌝ }
+    requires judged { ⌜ JudgedTo (now table) rows first ⌝ }
     requires first { ⌜ first ≡ firstWall (now table) ⌝ }
     ensures { λ r. ⌜ told r ≡ judging (now (table .entry)) ⌝ }
 {

@@ -9,7 +9,7 @@ use borrow.Author.Needs.{needs}
 use Rattle.answer.specs.Length.{Whole}
 use Rattle.answer.proofs.Lengths.{rows-whole}
 use Rattle.survey.specs.Table.{storeys}
-use Rattle.survey.specs.Internal.{Passed}
+use Rattle.survey.specs.Internal.{JudgedTo}
 use Rattle.survey.proofs.RowFaults.{row-house}
 use Rattle.survey.proofs.FaultlessRows.{house-storeys}
 use Rattle.survey.proofs.Judging.{judging-length, judging-begins, judging-fault, judging-goes-on, judging-short}
@@ -17,7 +17,7 @@ use Rattle.survey.proofs.judgement.judge.Statement.{statement}
 use Rattle.survey.proofs.judgement.judge.Tie as tie
 
 abbrev Inv-loop : tie.InvT-loop
-Inv-loop table rows storeys· row₀ row = Passed table rows row × (storeys· ≡ storeys table) × (storeys· ≤ 3) × (0 < row) × (row ≤ 3 * storeys· + 1)
+Inv-loop table rows storeys· row₀ row = JudgedTo table rows row × (storeys· ≡ storeys table) × (storeys· ≤ 3) × (0 < row) × (row ≤ 3 * storeys· + 1)
 
 abbrev μ-loop : tie.MeasureT-loop
 μ-loop table rows storeys· row₀ row = 3 * storeys· + 1 - row

@@ -5,7 +5,7 @@ use native.Mathlib.Omega.{arith}
 use denote.Ref.{now}
 use borrow.Author.Needs.{needs}
 use Rattle.survey.specs.Judgement.{rowFault}
-use Rattle.survey.specs.Internal.{Passed}
+use Rattle.survey.specs.Internal.{JudgedTo}
 use Rattle.survey.proofs.RowFaults.{row-parts, row-after}
 use Rattle.survey.proofs.Judging.{judging-fault, judging-goes-on, judging-short, judging-accepted}
 use Rattle.survey.proofs.judgement.judge_parts.Statement.{statement}
@@ -29,7 +29,7 @@ at-parts c = c .parts-fault .ensures ∙ row-parts _ _ (omega arith) (omega arit
 within : (c : tie.Else1) → c .before .before .args .row < c .before .before .args .rows
 within c = omega arith
 
-past-parts : (c : tie.Else2) → let args = c .before .before .before .before .before .args in Passed (now (args .table)) (args .rows) (args .row + 1)
+past-parts : (c : tie.Else2) → let args = c .before .before .before .before .before .args in JudgedTo (now (args .table)) (args .rows) (args .row + 1)
 past-parts c =
     let at-call = c .before .before in
     judging-goes-on (at-call .before .before .before .pre .0) (within (at-call .before)) (at-parts at-call) (c .if2 .left)

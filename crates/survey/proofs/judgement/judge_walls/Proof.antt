@@ -7,7 +7,7 @@ use denote.Ref.{now}
 use borrow.Author.Needs.{needs}
 use Rattle.survey.specs.Table.{firstWall, partsRow}
 use Rattle.survey.specs.Judgement.{rowFault}
-use Rattle.survey.specs.Internal.{Passed}
+use Rattle.survey.specs.Internal.{JudgedTo}
 use Rattle.survey.proofs.Positions.{wall-within, wall-before-parts, parts-row-here}
 use Rattle.survey.proofs.RowFaults.{row-wall}
 use Rattle.survey.proofs.Judging.{judging-fault, judging-goes-on}
@@ -15,7 +15,7 @@ use Rattle.survey.proofs.judgement.judge_walls.Statement.{statement}
 use Rattle.survey.proofs.judgement.judge_walls.Tie as tie
 
 abbrev Inv-loop : tie.InvT-loop
-Inv-loop table storeys rows first row₀ row = Passed table rows row × (firstWall table ≤ row) × (row ≤ partsRow table)
+Inv-loop table storeys rows first row₀ row = JudgedTo table rows row × (firstWall table ≤ row) × (row ≤ partsRow table)
 
 abbrev μ-loop : tie.MeasureT-loop
 μ-loop table storeys rows first row₀ row = rows - row
