@@ -21,3 +21,8 @@ cond-least false one other = other refl
 pub cond-same : (t : Bool) {a b c : ℕ} → a ≡ b → a ≡ c → a ≡ cond t b c
 cond-same true one other = one
 cond-same false one other = other
+
+-- A choice between two numbers that both pass a test.
+pub cond-every : (passes : ℕ → Bool) (t : Bool) {a b : ℕ} → passes a ≡ true → passes b ≡ true → passes (cond t a b) ≡ true
+cond-every passes true one other = one
+cond-every passes false one other = other

@@ -5,18 +5,18 @@ use Prim.Native.Nat.{_*_, _≤_}
 use lib.Dec.{lit<, lit≤}
 use Rattle.method.specs.Printed.{nth}
 use Rattle.method.specs.Held.{position, foundationUsed, sharedRow, entry, interpolated, rowFactor, jointFactor, solidShare, openingShare, wallShare}
-use Rattle.method.specs.Required.{topLine, constant, groundFactor, narrowFactor, requiredStrength}
+use Rattle.method.specs.Required.{topLine, constant, snowAddition, perArea, groundFactor, narrowFactor, requiredStrength}
 use Rattle.method.specs.LayoutFactor.{reached, band, floorType, layoutFactor}
 use Rattle.method.specs.Deterioration.{points, fraction, countedMarks, factorOf, deteriorationFactor}
 use Rattle.method.specs.Score.{score, cappedScore, verdict}
-use Rattle.method.specs.Worked.{house, housePart, items, strengths, bands, worked, expected, layoutTable, documentTable}
+use Rattle.method.specs.Worked.{snowyHouse, house, housePart, items, strengths, bands, worked, expected, layoutTable, documentTable}
 use Rattle.method.proofs.Requirements.{required-rises}
 use Rattle.method.proofs.Bands.{band-falls, layout-falls}
 use Rattle.method.proofs.Fractions.{deterioration-falls}
 use Rattle.method.proofs.Comparisons.{score-before-falls, full-score-falls, capped-score, verdict-rises}
 
 pub worked-out : worked ≡ expected
-unfolding position foundationUsed sharedRow entry interpolated rowFactor jointFactor solidShare openingShare wallShare nth topLine constant groundFactor narrowFactor requiredStrength reached band floorType layoutFactor points countedMarks factorOf deteriorationFactor score cappedScore verdict
+unfolding position foundationUsed sharedRow entry interpolated rowFactor jointFactor solidShare openingShare wallShare nth topLine constant snowAddition perArea groundFactor narrowFactor requiredStrength reached band floorType layoutFactor points countedMarks factorOf deteriorationFactor score cappedScore verdict
 worked-out = refl
 
 -- Document 01's own table, by lower and higher band, A as 0 to E as 4, is the one that 000 prints.
@@ -26,13 +26,13 @@ document-table = refl
 
 -- Each law that compares, at numbers that compute: a further premise, a turned conclusion or another number would not fit here.
 
--- A heavy house of one storey, 10 m², zone 90, on ordinary ground; a very heavy one, 40 m², zone 100, on very soft ground, with 113 for the
--- narrow factor: 3.6 kN becomes 43.392 kN.
-required-risen : 3_600_000_000 ≤ 43_392_000_000
-unfolding constant topLine groundFactor requiredStrength nth
+-- A heavy house of one storey, 10 m², zone 90, on ordinary ground, without snow; a very heavy one, 40 m², zone 100, on very soft ground, with
+-- 2.5 m of snow and 113 for the narrow factor: 3.6 kN becomes 87.462 kN.
+required-risen : 3_600_000_000 ≤ 87_462_000_000
+unfolding constant topLine snowAddition perArea groundFactor requiredStrength nth
 required-risen =
-    required-rises (house 1 2 90 1 1) (housePart 1 1 1000) (house 1 3 100 2 1) (housePart 1 1 4000) {wider = 100} {narrow = 113} (lit≤ tt) (lit≤ tt) (lit≤ tt)
-    (lit≤ tt) refl refl (lit≤ tt) (lit≤ tt)
+    required-rises (house 1 2 90 1 1) (housePart 1 1 1000) (snowyHouse 1 3 100 2 1 3) (housePart 1 1 4000) {wider = 100} {narrow = 113}
+    (lit≤ tt) (lit≤ tt) (lit≤ tt) (lit≤ tt) (lit≤ tt) (lit≤ tt) refl refl (lit≤ tt) (lit≤ tt)
 
 -- An end that holds 1.3 kN and then 1.2 kN, and of which 3.6 kN and then 4 kN are required: B becomes A.
 band-fallen : 0 ≤ 1

@@ -1,39 +1,64 @@
 -- The joint factor: which printed entry it takes, and that it never exceeds 100. Assumes nothing.
 use mathlib.Core.Path.{_≡_, refl, sym}
-use mathlib.Core.Bool.{true, false}
+use mathlib.Core.Bool.{Bool, true, false, _&&_}
 use mathlib.Core.List.{List, []}
-use Prim.Native.Nat.{ℕ, _-_, _*_, _<_, _≤_}
+use Prim.Native.Nat.{ℕ, _-_, _*_, _<_, _≤_, zero-le}
 use native.Mathlib.Nat.{le-of-suc-le-suc, le-trans, mul-le-mul-right, div-lt-iff-lt-mul}
 use native.Mathlib.Omega.{arith}
-use lib.ListN.{length, getD}
+use lib.ListN.{length, getD, List·getD-eq-default}
 use lib.Dec.{eqb, ltb, lit≤}
-use borrow.Author.Tests.{leb-true, ltb-true, ltb-false, eqb-false, eq-eqb, ne-eqb}
+use borrow.Author.Tests.{leb-true, ltb-true, ltb-false, eqb-false, le-leb, eq-eqb, ne-eqb}
 use Rattle.method.specs.declared.rows.House.{House}
 use Rattle.method.specs.declared.rows.Wall.{Wall}
 use Rattle.method.specs.Printed.{nth}
-use Rattle.method.specs.Held.{topStorey, otherStorey, oneStorey, position, foundationUsed, sharedRow, entry, interpolated, rowFactor, jointFactor}
-use Rattle.method.proofs.Branches.{cond-most, cond-least, cond-same}
-use Rattle.method.proofs.Tables.{nth-is, nth-none, every, getD-every, nth-every, small, short}
+use Rattle.method.specs.JointTables.{topStorey, otherStorey, oneStorey}
+use Rattle.method.specs.Held.{position, foundationUsed, sharedRow, entry, interpolated, rowFactor, jointFactor}
+use Rattle.method.proofs.Branches.{cond-most, cond-least, cond-same, cond-every}
+use Rattle.method.proofs.Tables.{nth-is, nth-none, and-true, every, getD-every, nth-every, small, short}
 
--- No printed entry is above 100.
-module _ (position foundation joint column : ℕ) where
-  top-most : getD (nth topStorey joint []) column 0 ≤ 100
-  top-most = leb-true _ 100 (getD-every (small 100) refl (nth topStorey joint []) (nth-every (every (small 100)) refl topStorey refl joint) column)
+-- A test that every printed entry passes, of all snows and positions.
+abbrev everyTop : (ℕ → Bool) → Bool
+everyTop passes = every (every (every passes)) topStorey
 
-  by-foundation : (table : List (List (List ℕ))) → every (every (every (small 100))) table ≡ true → (line : ℕ)
-      → nth (getD (nth table line []) column []) foundation 0 ≤ 100
-  by-foundation table h line =
-      leb-true _ 100
-      (nth-every (small 100) refl (getD (nth table line []) column [])
-      (getD-every (every (small 100)) refl (nth table line []) (nth-every (every (every (small 100))) refl table h line) column) foundation)
+abbrev everyIn : List (List (List (List ℕ))) → (ℕ → Bool) → Bool
+everyIn tables passes = every (every (every (every passes))) tables
 
-  pub entry-most : entry position foundation joint column ≤ 100
+abbrev everyEntry : (ℕ → Bool) → Bool
+everyEntry passes = everyTop passes && (everyIn otherStorey passes && everyIn oneStorey passes)
+
+-- Then the entry that is taken passes, and so does the 0 where none is printed.
+module _ (passes : ℕ → Bool) (default : passes 0 ≡ true) (snow position foundation joint column : ℕ) where
+  without-foundations : everyTop passes ≡ true → passes (getD (nth (getD topStorey snow []) joint []) column 0) ≡ true
+  without-foundations h =
+      let table = getD topStorey snow [] in
+      getD-every passes default (nth table joint [])
+      (nth-every (every passes) refl table (getD-every (every (every passes)) refl topStorey h snow) joint) column
+
+  by-foundation : (tables : List (List (List (List ℕ)))) → everyIn tables passes ≡ true → (line : ℕ)
+      → passes (nth (getD (nth (getD tables snow []) line []) column []) foundation 0) ≡ true
+  by-foundation tables h line =
+      let table = getD tables snow [] in
+      let row = nth table line [] in
+      nth-every passes default (getD row column [])
+      (getD-every (every passes) refl row
+      (nth-every (every (every passes)) refl table (getD-every (every (every (every passes))) refl tables h snow) line) column) foundation
+
+  pub entry-every : everyEntry passes ≡ true → passes (entry snow position foundation joint column) ≡ true
   unfolding entry
-  entry-most =
-      cond-most (eqb position 1) (λ e. top-most)
-      (λ e. cond-most (eqb position 2) (λ d. by-foundation otherStorey refl joint) (λ d. by-foundation oneStorey refl (sharedRow joint)))
+  entry-every all =
+      let apart = and-true (everyTop passes) (everyIn otherStorey passes && everyIn oneStorey passes) all in
+      let others = and-true (everyIn otherStorey passes) (everyIn oneStorey passes) (apart .1) in
+      cond-every passes (eqb position 1) (without-foundations (apart .0))
+      (cond-every passes (eqb position 2) (by-foundation otherStorey (others .0) joint) (by-foundation oneStorey (others .1) (sharedRow joint)))
 
--- The third table has three lines.
+-- No printed entry is above 100: one test over tables 4.3 and 4.4.
+all-small : everyEntry (small 100) ≡ true
+all-small = refl
+
+pub entry-most : (snow position foundation joint column : ℕ) → entry snow position foundation joint column ≤ 100
+entry-most snow position foundation joint column = leb-true _ 100 (entry-every (small 100) refl snow position foundation joint column all-small)
+
+-- The table of one storey has three lines.
 pub shared-some : (joint : ℕ) → 1 ≤ joint → 1 ≤ sharedRow joint
 unfolding sharedRow
 shared-some joint some = cond-least (eqb joint 4) (λ e. lit≤ tt) (λ e. some)
@@ -43,32 +68,55 @@ unfolding sharedRow
 shared-most joint most = cond-most (eqb joint 4) (λ e. lit≤ tt) (λ e. omega (arith, most, eqb-false joint 4 e))
 
 -- What the printed entry is, by the table that holds it.
-module _ (position foundation joint column : ℕ) where
-  no-foundation : (table : List (List (List ℕ))) → every (every (short 3)) table ≡ true → (line : ℕ) → (1 ≤ foundation → foundation ≤ 3 → ⊥)
-      → 0 ≡ nth (getD (nth table line []) column []) foundation 0
-  no-foundation table h line none =
-      let cell = getD (nth table line []) column [] in
-      let three : length cell ≤ 3 = leb-true _ 3 (getD-every (short 3) refl (nth table line []) (nth-every (every (short 3)) refl table h line) column) in
+module _ (snow position foundation joint column : ℕ) where
+  no-line : {A : Type 0} (tables : List (List (List A))) (most line : ℕ) → every (short most) tables ≡ true → (1 ≤ line → line ≤ most → ⊥)
+      → nth (getD tables snow []) line [] ≡ []
+  no-line tables most line h none =
+      let lines = leb-true _ most (getD-every (short most) (le-leb 0 most zero-le) tables h snow) in
+      nth-none (getD tables snow []) line [] (λ some last. none some (le-trans last lines))
+
+  no-foundation : (tables : List (List (List (List ℕ)))) → every (every (every (short 3))) tables ≡ true → (line : ℕ)
+      → (1 ≤ foundation → foundation ≤ 3 → ⊥) → 0 ≡ nth (getD (nth (getD tables snow []) line []) column []) foundation 0
+  no-foundation tables h line none =
+      let table = getD tables snow [] in
+      let row = nth table line [] in
+      let cell = getD row column [] in
+      let short-row = nth-every (every (short 3)) refl table (getD-every (every (every (short 3))) refl tables h snow) line in
+      let three : length cell ≤ 3 = leb-true _ 3 (getD-every (short 3) refl row short-row column) in
       sym (nth-none cell foundation 0 (λ some most. none some (le-trans most three)))
 
-  pub entry-no-joint : (1 ≤ joint → joint ≤ 4 → ⊥) → 0 ≡ entry position foundation joint column
-  unfolding entry sharedRow nth
-  entry-no-joint none =
+  pub entry-no-snow : 4 ≤ snow → 0 ≡ entry snow position foundation joint column
+  unfolding entry nth
+  entry-no-snow beyond =
       rw (
-        nth-none topStorey joint [] none,
-        nth-none otherStorey joint [] none,
-        ne-eqb joint 4 (λ e. none (omega arith) (omega arith)),
-        nth-none oneStorey joint [] (λ some most. none some (omega arith)),
+        List·getD-eq-default topStorey [] beyond,
+        List·getD-eq-default otherStorey [] beyond,
+        List·getD-eq-default oneStorey [] beyond,
+        nth-none {A = List ℕ} [] joint [] (λ some most. omega arith),
+        nth-none {A = List (List ℕ)} [] joint [] (λ some most. omega arith),
+        nth-none {A = List (List ℕ)} [] (sharedRow joint) [] (λ some most. omega arith),
         nth-none {A = ℕ} [] foundation 0 (λ some most. omega arith),
       )
       (cond-same (eqb position 1) refl (cond-same (eqb position 2) refl refl))
 
-  pub entry-top : position ≡ 1 → 1 ≤ joint → getD (getD topStorey (joint - 1) []) column 0 ≡ entry position foundation joint column
+  pub entry-no-joint : (1 ≤ joint → joint ≤ 4 → ⊥) → 0 ≡ entry snow position foundation joint column
+  unfolding entry sharedRow nth
+  entry-no-joint none =
+      rw (
+        no-line topStorey 4 joint refl none,
+        no-line otherStorey 4 joint refl none,
+        ne-eqb joint 4 (λ e. none (omega arith) (omega arith)),
+        no-line oneStorey 3 joint refl (λ some most. none some (omega arith)),
+        nth-none {A = ℕ} [] foundation 0 (λ some most. omega arith),
+      )
+      (cond-same (eqb position 1) refl (cond-same (eqb position 2) refl refl))
+
+  pub entry-top : position ≡ 1 → 1 ≤ joint → getD (getD (getD topStorey snow []) (joint - 1) []) column 0 ≡ entry snow position foundation joint column
   unfolding entry
-  entry-top top some = rw (eq-eqb position 1 top, nth-is topStorey joint [] some)
+  entry-top top some = rw (eq-eqb position 1 top, nth-is (getD topStorey snow []) joint [] some)
 
   module _ (below : position ≡ 1 → ⊥) where
-    pub entry-no-foundation : (1 ≤ foundation → foundation ≤ 3 → ⊥) → 0 ≡ entry position foundation joint column
+    pub entry-no-foundation : (1 ≤ foundation → foundation ≤ 3 → ⊥) → 0 ≡ entry snow position foundation joint column
     unfolding entry
     entry-no-foundation none =
         rw (ne-eqb position 1 below)
@@ -76,16 +124,16 @@ module _ (position foundation joint column : ℕ) where
 
     module _ (known : 1 ≤ foundation) where
       pub entry-other : position ≡ 2 → 1 ≤ joint
-          → getD (getD (getD otherStorey (joint - 1) []) column []) (foundation - 1) 0 ≡ entry position foundation joint column
+          → getD (getD (getD (getD otherStorey snow []) (joint - 1) []) column []) (foundation - 1) 0 ≡ entry snow position foundation joint column
       unfolding entry
       entry-other other some =
-          rw (ne-eqb position 1 below, eq-eqb position 2 other, nth-is otherStorey joint [] some) (sym (nth-is _ foundation 0 known))
+          rw (ne-eqb position 1 below, eq-eqb position 2 other, nth-is (getD otherStorey snow []) joint [] some) (sym (nth-is _ foundation 0 known))
 
       pub entry-one : (position ≡ 2 → ⊥) → {line : ℕ} → line ≡ sharedRow joint → 1 ≤ line
-          → getD (getD (getD oneStorey (line - 1) []) column []) (foundation - 1) 0 ≡ entry position foundation joint column
+          → getD (getD (getD (getD oneStorey snow []) (line - 1) []) column []) (foundation - 1) 0 ≡ entry snow position foundation joint column
       unfolding entry
       entry-one one {line} shared some =
-          rw (ne-eqb position 1 below, ne-eqb position 2 one, ← shared, nth-is oneStorey line [] some) (sym (nth-is _ foundation 0 known))
+          rw (ne-eqb position 1 below, ne-eqb position 2 one, ← shared, nth-is (getD oneStorey snow []) line [] some) (sym (nth-is _ foundation 0 known))
 
 -- Between entries of at most 100 the factor is at most 100.
 pub interpolated-most : (from to left right strength : ℕ) → left ≤ 100 → right ≤ 100 → from ≤ strength → strength < to
@@ -111,10 +159,12 @@ module _ (row : ℕ → ℕ) (most : (column : ℕ) → row column ≤ 100) (str
       (λ above-30. cond-most (ltb strength 50) (stretch-most 30 50 1 2 above-30)
       (λ above-50. cond-most (ltb strength 70) (stretch-most 50 70 2 3 above-50) (λ above-70. most 3))))
 
--- Once over every position, foundation and joint, and so for every storey.
-pub row-factor-most : (position foundation joint strength : ℕ) → rowFactor (entry position foundation joint) strength ≤ 100
-row-factor-most position foundation joint strength = row-most (entry position foundation joint) (entry-most position foundation joint) strength
+-- Once over every snow, position, foundation and joint, and so for every storey.
+pub row-factor-most : (snow position foundation joint strength : ℕ) → rowFactor (entry snow position foundation joint) strength ≤ 100
+row-factor-most snow position foundation joint strength =
+    row-most (entry snow position foundation joint) (entry-most snow position foundation joint) strength
 
 pub joint-most : (house : House) (storey : ℕ) (wall : Wall) → jointFactor house storey wall ≤ 100
 unfolding jointFactor
-joint-most house storey wall = row-factor-most (position house storey) (foundationUsed house storey) (wall .joint) (wall .strength)
+joint-most house storey wall =
+    row-factor-most (house .snow) (position house storey) (foundationUsed house storey) (wall .joint) (wall .strength)

@@ -1,9 +1,9 @@
--- The required strength never falls with weight class, zone or ground, is positive, and has a most. Assumes nothing.
+-- The required strength never falls with weight class, zone, ground or snow, is positive, and has a most. Assumes nothing.
 use mathlib.Core.Path.{_≡_, refl, sym}
 use mathlib.Core.Bool.{Bool, true, false, not, _&&_, _||_}
 use mathlib.Core.List.{List, []}
 use Prim.Native.Nat.{ℕ, _+_, _-_, _<_, _≤_, zero-le}
-use native.Mathlib.Nat.{mul-le-mul, mul-pos, le-refl, le-trans}
+use native.Mathlib.Nat.{add-le-add, mul-le-mul, mul-pos, le-refl, le-trans}
 use native.Mathlib.Omega.{arith}
 use lib.ListN.{length, getD}
 use lib.Dec.{eqb, leb, ltb, lit≤}
@@ -12,7 +12,7 @@ use Rattle.method.specs.declared.rows.House.{House}
 use Rattle.method.specs.declared.rows.Storey.{Storey}
 use Rattle.method.specs.declared.rows.HousePart.{HousePart}
 use Rattle.method.specs.Printed.{nth}
-use Rattle.method.specs.Required.{constants, topLine, constant, groundFactor, narrowFactor, requiredStrength, mostRequired}
+use Rattle.method.specs.Required.{constants, snowAdditions, topLine, constant, snowAddition, perArea, groundFactor, narrowFactor, requiredStrength, mostRequired}
 use Rattle.method.proofs.Tables.{nth-is, nth-none, implied, every, getD-every, nth-every, small, short, everyBelow, at-every}
 use Rattle.method.proofs.Branches.{cond-most, cond-least, cond-same}
 
@@ -66,9 +66,17 @@ constant-positive part {weight} some most few class last =
     (at-every 4 _ (at-every 4 _ (at-every 4 _ all-positive storeys (omega arith)) storey (omega arith)) weight (omega arith))
     (rw (le-leb 1 storey some, le-leb storey storeys most, le-leb 1 weight class)))
 
--- And along a line, from one weight class to this one or a heavier, constants never fall.
+-- A line of three numbers that never fall, of weight classes or of snow: from none, 0, to the third.
 rising : List ℕ → Bool
-rising line = everyBelow 4 (λ lighter. everyBelow 4 (λ weight. not (leb lighter weight) || leb (nth line lighter 0) (nth line weight 0)))
+rising line = everyBelow 4 (λ lower. everyBelow 4 (λ higher. not (leb lower higher) || leb (nth line lower 0) (nth line higher 0)))
+
+line-rises : (line : List ℕ) → rising line ≡ true → {lower higher : ℕ} → lower ≤ higher → higher ≤ 3 → nth line lower 0 ≤ nth line higher 0
+unfolding rising
+line-rises line h {lower} {higher} rises last =
+    leb-true (nth line lower 0) (nth line higher 0)
+    (implied (leb lower higher) (at-every 4 _ (at-every 4 _ h lower (omega arith)) higher (omega arith)) (le-leb lower higher rises))
+
+-- From one weight class to this one or a heavier, constants never fall.
 
 all-rising : every rising constants ≡ true
 unfolding everyBelow rising nth
@@ -78,19 +86,33 @@ none-rising : rising [] ≡ true
 unfolding everyBelow rising nth
 none-rising = refl
 
-module _ {lighter weight : ℕ} (heavier : lighter ≤ weight) (last : weight ≤ 3) where
-  line-rises : (n : ℕ) → nth (getD constants n []) lighter 0 ≤ nth (getD constants n []) weight 0
-  unfolding rising
-  line-rises n =
-      let line = getD constants n [] in
-      leb-true (nth line lighter 0) (nth line weight 0)
-      (implied (leb lighter weight)
-      (at-every 4 _ (at-every 4 _ (getD-every rising none-rising constants all-rising n) lighter (omega arith)) weight (omega arith))
-      (le-leb lighter weight heavier))
+pub constant-rises : (part : HousePart) {lighter weight : ℕ} → lighter ≤ weight → weight ≤ 3 → constant part lighter ≤ constant part weight
+unfolding constant
+constant-rises part {lighter} {weight} heavier last =
+    let at = line part weight in
+    cond-most (known part weight)
+    (λ e. rw e (line-rises (getD constants at []) (getD-every rising none-rising constants all-rising at) heavier last)) (λ e. zero-le)
 
-  pub constant-rises : (part : HousePart) → constant part lighter ≤ constant part weight
-  unfolding constant
-  constant-rises part = cond-most (known part weight) (λ e. rw e (line-rises (line part weight))) (λ e. zero-le)
+-- What the addition for snow is; it never falls with deeper snow, and is at most 65.
+pub addition-none : (snow : ℕ) → (1 ≤ snow → snow ≤ 3 → ⊥) → 0 ≡ snowAddition snow
+unfolding snowAddition
+addition-none snow none = sym (nth-none snowAdditions snow 0 none)
+
+pub addition-is : (snow : ℕ) → 1 ≤ snow → getD snowAdditions (snow - 1) 0 ≡ snowAddition snow
+unfolding snowAddition
+addition-is snow some = sym (nth-is snowAdditions snow 0 some)
+
+additions-rising : rising snowAdditions ≡ true
+unfolding everyBelow rising nth
+additions-rising = refl
+
+addition-rises : {less snow : ℕ} → less ≤ snow → snow ≤ 3 → snowAddition less ≤ snowAddition snow
+unfolding snowAddition
+addition-rises deeper last = line-rises snowAdditions additions-rising deeper last
+
+addition-most : (snow : ℕ) → snowAddition snow ≤ 65
+unfolding snowAddition
+addition-most snow = leb-true _ 65 (nth-every (small 65) refl snowAdditions refl snow)
 
 -- Very soft ground asks for more, and the factor is at least 10.
 ground-least : (ground : ℕ) → 10 ≤ groundFactor ground
@@ -128,26 +150,31 @@ constant-most part weight =
     cond-most (known part weight)
     (λ e. leb-true _ 207 (nth-every (small 207) refl (getD constants at []) (getD-every (every (small 207)) refl constants refl at) weight)) (λ e. lit≤ tt)
 
--- The required strength of a part. It never falls with weight class, zone or ground, nor with area or narrow factor.
+-- The constant with the addition is at most 272.
+pub per-area-most : (house : House) (part : HousePart) → perArea house part ≤ 272
+unfolding perArea
+per-area-most house part = omega (arith, constant-most part (house .weight), addition-most (house .snow))
+
+-- The required strength of a part. It never falls with weight class, zone, ground or snow, nor with area or narrow factor.
 module _ (house : House) (part : HousePart) where
   pub required-rises : (worse : House) (other : HousePart) {wider narrow : ℕ} → house .weight ≤ worse .weight → worse .weight ≤ 3
-      → house .zone ≤ worse .zone → house .ground ≤ worse .ground
+      → house .zone ≤ worse .zone → house .ground ≤ worse .ground → house .snow ≤ worse .snow → worse .snow ≤ 3
       → part .storey ≡ other .storey → part .storeys ≡ other .storeys → part .area ≤ other .area → wider ≤ narrow
       → requiredStrength house part wider ≤ requiredStrength worse other narrow
-  unfolding requiredStrength constant
-  required-rises worse other heavier last higher softer storey storeys larger narrower =
+  unfolding requiredStrength perArea constant
+  required-rises worse other heavier heaviest higher softer deeper deepest storey storeys larger narrower =
+      let constants-rise : constant part (house .weight) ≤ constant other (worse .weight) = rw (← storey, ← storeys) (constant-rises part heavier heaviest) in
       mul-le-mul
-      (mul-le-mul (mul-le-mul (mul-le-mul (rw (← storey, ← storeys) (constant-rises heavier last part)) larger) higher) (ground-rises softer)) narrower
+      (mul-le-mul (mul-le-mul (mul-le-mul (add-le-add constants-rise (addition-rises deeper deepest)) larger) higher) (ground-rises softer)) narrower
 
   pub required-positive : {narrow : ℕ} → 1 ≤ part .storey → part .storey ≤ part .storeys → part .storeys ≤ 3 → 1 ≤ house .weight → house .weight ≤ 3
       → 0 < part .area → 0 < house .zone → 0 < narrow → 0 < requiredStrength house part narrow
-  unfolding requiredStrength
+  unfolding requiredStrength perArea
   required-positive some most few class last area zone narrow =
-      mul-pos
-      (mul-pos (mul-pos (mul-pos (constant-positive part some most few class last) area) zone) (le-trans (lit≤ tt) (ground-least (house .ground))))
-      narrow
+      let per-area : 0 < constant part (house .weight) + snowAddition (house .snow) = omega (arith, constant-positive part some most few class last) in
+      mul-pos (mul-pos (mul-pos (mul-pos per-area area) zone) (le-trans (lit≤ tt) (ground-least (house .ground)))) narrow
 
   pub required-most : {narrow : ℕ} → part .area ≤ 50000 → house .zone ≤ 100 → narrow ≤ 113 → requiredStrength house part narrow ≤ mostRequired
   unfolding requiredStrength
   required-most area zone narrow =
-      le-trans (mul-le-mul (mul-le-mul (mul-le-mul (mul-le-mul (constant-most part (house .weight)) area) zone) (ground-most (house .ground))) narrow) (lit≤ tt)
+      le-trans (mul-le-mul (mul-le-mul (mul-le-mul (mul-le-mul (per-area-most house part) area) zone) (ground-most (house .ground))) narrow) (lit≤ tt)

@@ -34,11 +34,11 @@ module _ (house : House) (storey : ℕ) (wall : Wall) (short : wall .length ≤ 
       (λ e. cond-most (eqb (wall .walltype) 2) (λ d. opening-most 6 (lit≤ tt))
       (λ d. cond-most (eqb (wall .walltype) 3) (λ f. opening-most 3 (lit≤ tt)) (λ f. lit≤ tt)))
 
--- Of a house a wall's share takes the storeys and the foundation alone.
-pub share-same : (house other : House) → house .storeys ≡ other .storeys → house .foundation ≡ other .foundation
+-- Of a house a wall's share takes the storeys, the foundation and the snow alone.
+pub share-same : (house other : House) → house .storeys ≡ other .storeys → house .foundation ≡ other .foundation → house .snow ≡ other .snow
     → (storey : ℕ) (wall : Wall) → wallShare house storey wall ≡ wallShare other storey wall
 unfolding wallShare solidShare jointFactor position foundationUsed
-share-same house other storeys foundation storey wall = rw (storeys, foundation)
+share-same house other storeys foundation snow storey wall = rw (storeys, foundation, snow)
 
 -- The sum over the walls that a test takes.
 module _ (takes : ℕ → Bool) (share : ℕ → ℕ) where

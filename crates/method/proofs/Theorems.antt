@@ -40,11 +40,11 @@ points-under-ten-masked = counts.points-under-ten-masked
 pub points-masked : (set : ℕ) → points itemPointsUnderTen set + ones (bitAnd set 2272) ≡ points itemPoints set
 points-masked = counts.points-masked
 
--- A house made worse, number by number. With a heavier class, a higher zone or softer ground no less is required of a storey or an end, nor
--- with a larger area or narrow factor.
+-- A house made worse, number by number. With a heavier class, a higher zone, softer ground or deeper snow no less is required of a storey or an
+-- end, nor with a larger area or narrow factor. (Deeper snow can also raise what a wall counts, so two houses that are compared have the same.)
 pub required-rises : (house : House) (part : HousePart) (worse : House) (other : HousePart) {wider narrow : ℕ}
     → house .weight ≤ worse .weight → worse .weight ≤ 3 → house .zone ≤ worse .zone → house .ground ≤ worse .ground
-    → part .storey ≡ other .storey → part .storeys ≡ other .storeys → part .area ≤ other .area → wider ≤ narrow
+    → house .snow ≤ worse .snow → worse .snow ≤ 3 → part .storey ≡ other .storey → part .storeys ≡ other .storeys → part .area ≤ other .area → wider ≤ narrow
     → requiredStrength house part wider ≤ requiredStrength worse other narrow
 required-rises = requirements.required-rises
 

@@ -22,6 +22,11 @@ constants =
     ∷ (134 ∷ 166 ∷ 207 ∷ [])  -- storey 1
     ∷ []
 
+-- "the per-area addition of 000's section 4.1" (document 02, request 1), in 0.01 kN/m²: for 1 m and 2 m of snow as it is printed there, "0.26Z" and
+-- "0.52Z", and for 2.5 m, which it leaves out, on the same straight line.
+abbrev pub snowAdditions : List ℕ
+snowAdditions = 26 ∷ 52 ∷ 65 ∷ []
+
 -- The line of the table where a number of storeys begins, with its top storey.
 unfoldable pub topLine : ℕ → ℕ
 topLine storeys = cond (eqb storeys 1) 0 (cond (eqb storeys 2) 1 3)
@@ -33,6 +38,14 @@ constant part weight =
     cond (leb 1 (part .storey) && leb (part .storey) (part .storeys) && leb (part .storeys) 3)
     (nth (getD constants (topLine (part .storeys) + (part .storeys - part .storey)) []) weight 0) 0
 
+-- The addition by the house's snow, "0 none, 1 for 1 m cleared, 2 for 2 m, 3 for 2.5 m"; 0 for any other number.
+unfoldable pub snowAddition : ℕ → ℕ
+snowAddition snow = nth snowAdditions snow 0
+
+-- What is required of an area in 0.01 kN/m², before zone, ground and narrow factor: the constant with the addition.
+unfoldable pub perArea : House → HousePart → ℕ
+perArea house part = constant part (house .weight) + snowAddition (house .snow)
+
 -- "ground (10 ordinary, 15 very soft)". Ground 1 is ordinary, 2 very soft; other numbers go by the same test.
 unfoldable pub groundFactor : ℕ → ℕ
 groundFactor ground = cond (ltb ground 2) 10 15
@@ -43,9 +56,10 @@ unfoldable pub narrowFactor : House → Storey → ℕ
 narrowFactor house storey = cond (leb 2 (house .storeys) && eqb (storey .number) 1 && ltb (storey .side) 4000) 113 100
 
 -- "Constant in 0.01 kN/m² × area × zone × ground (..) × narrow factor in hundredths." "An end uses its own area, its part's number of storeys
--- for the constant, and its storey's other factors": so for a storey the storeys are the house's, for an end its part's.
+-- for the constant, and its storey's other factors": so for a storey the storeys are the house's, for an end its part's. The addition for snow is
+-- "times zone, for a storey and for its ends alike; ground and narrow factors apply to the sum" (document 02, request 1).
 unfoldable pub requiredStrength : House → HousePart → ℕ → ℕ
-requiredStrength house part narrow = constant part (house .weight) * part .area * house .zone * groundFactor (house .ground) * narrow
+requiredStrength house part narrow = perArea house part * part .area * house .zone * groundFactor (house .ground) * narrow
 
 -- 60,000 kN in this unit, more than a storey can need. Where scores are computed, a required strength above this counts as this
 -- (`cappedScore`).

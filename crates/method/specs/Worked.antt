@@ -15,10 +15,13 @@ use Rattle.method.specs.LayoutFactor.{band, floorType, layoutFactor, byF
 use Rattle.method.specs.Deterioration.{itemPoints, itemPointsUnderTen, points, fraction, deteriorationFactor}
 use Rattle.method.specs.Score.{score, scoreBeforeLayout, cappedScore, verdict}
 
--- A house by its storeys, weight class, zone, ground and foundation,
+-- A house by its storeys, weight class, zone, ground and foundation, and by its snow, or without snow,
+abbrev pub snowyHouse : ℕ → ℕ → ℕ → ℕ → ℕ → ℕ → House
+snowyHouse storeys weight zone ground foundation snow =
+    record { storeys = storeys; weight = weight; zone = zone; ground = ground; foundation = foundation; snow = snow }
+
 abbrev pub house : ℕ → ℕ → ℕ → ℕ → ℕ → House
-house storeys weight zone ground foundation =
-    record { storeys = storeys; weight = weight; zone = zone; ground = ground; foundation = foundation }
+house storeys weight zone ground foundation = snowyHouse storeys weight zone ground foundation 0
 
 -- a storey of 40 m² by its number, short side, floor type and void,
 abbrev pub storey : ℕ → ℕ → ℕ → ℕ → Storey

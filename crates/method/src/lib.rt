@@ -7,6 +7,7 @@
 // answers. The theorems, the laws for comparing two houses among them, are in proofs/Theorems.antt.
 mod deterioration;
 mod held;
+mod joint_tables;
 mod joints;
 mod layout;
 mod most_strengths;

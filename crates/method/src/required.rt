@@ -3,7 +3,7 @@ use crate::rows::House;
 use crate::rows::HousePart;
 use crate::rows::Storey;
 ghost use mathlib.Core.Path.{_≡_};
-ghost use Rattle.method.specs.Required.{topLine, constant, groundFactor, narrowFactor, requiredStrength};
+ghost use Rattle.method.specs.Required.{topLine, constant, snowAddition, perArea, groundFactor, narrowFactor, requiredStrength};
 
 // 000's table 4.1, in 0.01 kN/m²: light, heavy and very heavy buildings.
 const CONSTANTS: [[u8; 3]; 6] = [
@@ -14,6 +14,10 @@ const CONSTANTS: [[u8; 3]; 6] = [
     [98, 125, 159], // storey 2
     [134, 166, 207], // storey 1
 ];
+
+// 000's section 4.1, in 0.01 kN/m²: what is added for 1 m and 2 m of snow, and on the same straight line
+// for 2.5 m.
+const SNOW_ADDITIONS: [u8; 3] = [26, 52, 65];
 
 // The line of the table where a number of storeys begins, with its top storey.
 fn top_line(storeys: u32) -> u32
@@ -53,6 +57,26 @@ fn constant(part: HousePart, weight: u32) -> u8
     CONSTANTS[line as usize][(weight - 1) as usize]
 }
 
+// The addition by the house's snow; 0 where there is none, or no such number.
+fn snow_addition(snow: u32) -> u8
+    ensures { λ r. ⌜ r ≡ snowAddition snow ⌝ }
+{
+    if snow < 1 {
+        return 0;
+    }
+    if 3 < snow {
+        return 0;
+    }
+    SNOW_ADDITIONS[(snow - 1) as usize]
+}
+
+// The constant with the addition, which together are beyond a u8.
+fn per_area(house: House, part: HousePart) -> u32
+    ensures { λ r. ⌜ r ≡ perArea house part ⌝ }
+{
+    constant(part, house.weight) as u32 + snow_addition(house.snow) as u32
+}
+
 // Ground 1 is ordinary, 2 very soft.
 fn ground_factor(ground: u32) -> u8
     ensures { λ r. ⌜ r ≡ groundFactor ground ⌝ }
@@ -85,7 +109,7 @@ pub fn required_strength(house: House, part: HousePart, narrow: u8) -> u64
 {
     let zone = house.zone;
     let area = part.area;
-    let constant = constant(part, house.weight);
+    let per_area = per_area(house, part);
     let factor = ground_factor(house.ground);
-    constant as u64 * area as u64 * zone as u64 * factor as u64 * narrow as u64
+    per_area as u64 * area as u64 * zone as u64 * factor as u64 * narrow as u64
 }

@@ -3,13 +3,15 @@
 // never hands over two of a kind side by side, where one could be taken for the other.
 
 // A house, by its row: its storeys, weight class (1 light, 2 heavy, 3 very heavy), zone in hundredths,
-// ground (1 ordinary, 2 very soft) and foundation (1 to 3). Its age counts for deterioration alone.
+// ground (1 ordinary, 2 very soft), foundation (1 to 3) and snow (0 none, 1 for 1 m cleared, 2 for 2 m, 3
+// for 2.5 m). Its age counts for deterioration alone.
 pub struct House {
     pub storeys: u32,
     pub weight: u32,
     pub zone: u8,
     pub ground: u32,
     pub foundation: u32,
+    pub snow: u32,
 }
 
 // A storey, by its row: its number from the ground up, floor area in 0.01 m², short side in mm, floor

@@ -17,7 +17,7 @@ row-factor-requires : tie.Need-row-factor-requires
 row-factor-requires c κs = search needs
 
 most : (c : tie.After-row-factor) → c .row-factor .result ≤ 100
-most c = rw (c .row-factor .ensures) (row-factor-most _ _ _ _)
+most c = rw (c .row-factor .ensures) (row-factor-most _ _ _ _ _)
 
 cast-result : tie.Need-cast-result
 cast-result c = omega (arith, most c)

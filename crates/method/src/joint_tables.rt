@@ -1,0 +1,159 @@
+// The factors that 000 prints for the joints of a wall's columns, in hundredths: a line a joint; from the
+// left the strengths 2.0, 3.0, 5.0 and 7.0 kN/m, in ② and ③ each for foundations I, II and III.
+
+// Outside snow areas: 000's reference 2, tables 1 to 3 (as its table 4.3).
+
+// ① the top storey of two or three.
+const TOP_STOREY_NO_SNOW: [[u8; 4]; 4] = [
+    [100, 100, 100, 100], // joint I
+    [100, 80, 65, 50], // joint II
+    [70, 60, 45, 35], // joint III
+    [70, 35, 25, 20], // joint IV
+];
+
+// ② the other storeys of two or three.
+const OTHER_STOREY_NO_SNOW: [[[u8; 3]; 4]; 4] = [
+    [[100, 100, 100], [100, 90, 80], [100, 85, 70], [100, 80, 60]], // joint I
+    [[100, 100, 100], [100, 90, 80], [90, 80, 70], [80, 70, 60]], // joint II
+    [[100, 100, 100], [80, 80, 80], [70, 70, 70], [60, 60, 60]], // joint III
+    [[100, 100, 100], [80, 80, 80], [70, 70, 70], [60, 60, 60]], // joint IV
+];
+
+// ③ one storey.
+const ONE_STOREY_NO_SNOW: [[[u8; 3]; 4]; 3] = [
+    [[100, 85, 70], [100, 85, 70], [100, 80, 70], [100, 80, 70]], // joint I
+    [[100, 85, 70], [90, 75, 70], [85, 70, 65], [80, 70, 60]], // joint II
+    [[70, 70, 70], [60, 60, 60], [50, 50, 50], [30, 30, 30]], // joints III and IV
+];
+
+// 000's table 4.4, for snow. 1 m, where it is cleared off.
+
+// ① the top storey of two or three.
+const TOP_STOREY_1M: [[u8; 4]; 4] = [
+    [100, 100, 100, 100], // joint I
+    [100, 90, 85, 75], // joint II
+    [100, 75, 65, 55], // joint III
+    [100, 75, 60, 50], // joint IV
+];
+
+// ② the other storeys of two or three.
+const OTHER_STOREY_1M: [[[u8; 3]; 4]; 4] = [
+    [
+        [100, 100, 100],
+        [100, 100, 100],
+        [100, 90, 85],
+        [100, 85, 75],
+    ], // joint I
+    [[100, 100, 100], [100, 100, 100], [95, 90, 85], [95, 85, 75]], // joint II
+    [[100, 100, 100], [100, 100, 100], [85, 85, 85], [75, 75, 75]], // joint III
+    [[100, 100, 100], [100, 100, 100], [85, 85, 85], [75, 75, 75]], // joint IV
+];
+
+// ③ one storey.
+const ONE_STOREY_1M: [[[u8; 3]; 4]; 3] = [
+    [[100, 100, 100], [100, 85, 75], [100, 80, 70], [100, 80, 70]], // joint I
+    [[100, 100, 100], [90, 80, 75], [85, 70, 65], [80, 70, 60]], // joint II
+    [[100, 100, 100], [75, 75, 75], [65, 65, 65], [35, 35, 35]], // joints III and IV
+];
+
+// 2 m, where it is not.
+
+// ① the top storey of two or three.
+const TOP_STOREY_2M: [[u8; 4]; 4] = [
+    [100, 100, 100, 100], // joint I
+    [100, 95, 85, 80], // joint II
+    [100, 85, 75, 70], // joint III
+    [100, 85, 75, 70], // joint IV
+];
+
+// ② the other storeys of two or three.
+const OTHER_STOREY_2M: [[[u8; 3]; 4]; 4] = [
+    [
+        [100, 100, 100],
+        [100, 100, 100],
+        [100, 95, 95],
+        [100, 95, 90],
+    ], // joint I
+    [
+        [100, 100, 100],
+        [100, 100, 100],
+        [100, 95, 95],
+        [100, 95, 90],
+    ], // joint II
+    [[100, 100, 100], [100, 100, 100], [95, 95, 95], [90, 90, 90]], // joint III
+    [[100, 100, 100], [100, 100, 100], [95, 95, 95], [90, 90, 90]], // joint IV
+];
+
+// ③ one storey.
+const ONE_STOREY_2M: [[[u8; 3]; 4]; 3] = [
+    [[100, 100, 100], [100, 90, 85], [100, 85, 75], [100, 85, 75]], // joint I
+    [[100, 100, 100], [95, 90, 85], [85, 80, 75], [80, 75, 70]], // joint II
+    [[100, 100, 100], [85, 85, 85], [80, 80, 75], [50, 50, 50]], // joints III and IV
+];
+
+// 2.5 m, where it is not.
+
+// ① the top storey of two or three.
+const TOP_STOREY_2M50: [[u8; 4]; 4] = [
+    [100, 100, 100, 100], // joint I
+    [100, 95, 90, 85], // joint II
+    [100, 90, 80, 75], // joint III
+    [100, 90, 80, 75], // joint IV
+];
+
+// ② the other storeys of two or three.
+const OTHER_STOREY_2M50: [[[u8; 3]; 4]; 4] = [
+    [
+        [100, 100, 100],
+        [100, 100, 100],
+        [100, 95, 95],
+        [100, 95, 90],
+    ], // joint I
+    [
+        [100, 100, 100],
+        [100, 100, 100],
+        [100, 95, 95],
+        [100, 95, 90],
+    ], // joint II
+    [[100, 100, 100], [100, 100, 100], [95, 95, 95], [90, 90, 90]], // joint III
+    [[100, 100, 100], [100, 100, 100], [95, 95, 95], [90, 90, 90]], // joint IV
+];
+
+// ③ one storey.
+const ONE_STOREY_2M50: [[[u8; 3]; 4]; 3] = [
+    [
+        [100, 100, 100],
+        [100, 100, 100],
+        [100, 95, 95],
+        [100, 90, 80],
+    ], // joint I
+    [
+        [100, 100, 100],
+        [100, 100, 100],
+        [100, 95, 95],
+        [100, 75, 70],
+    ], // joint II
+    [[100, 100, 100], [100, 100, 100], [90, 90, 90], [60, 60, 60]], // joints III and IV
+];
+
+// The tables of a position by the house's snow: 0 none, 1 for 1 m cleared, 2 for 2 m, 3 for 2.5 m.
+pub(crate) const TOP_STOREY: [[[u8; 4]; 4]; 4] = [
+    TOP_STOREY_NO_SNOW,
+    TOP_STOREY_1M,
+    TOP_STOREY_2M,
+    TOP_STOREY_2M50,
+];
+
+pub(crate) const OTHER_STOREY: [[[[u8; 3]; 4]; 4]; 4] = [
+    OTHER_STOREY_NO_SNOW,
+    OTHER_STOREY_1M,
+    OTHER_STOREY_2M,
+    OTHER_STOREY_2M50,
+];
+
+pub(crate) const ONE_STOREY: [[[[u8; 3]; 4]; 3]; 4] = [
+    ONE_STOREY_NO_SNOW,
+    ONE_STOREY_1M,
+    ONE_STOREY_2M,
+    ONE_STOREY_2M50,
+];
