@@ -24,7 +24,7 @@ use Rattle.method.proofs.Requirements as requirements
 use Rattle.method.proofs.Requirements.{narrow-least, required-rises, required-positive}
 use Rattle.method.proofs.Fractions.{deterioration-falls}
 use Rattle.method.proofs.Comparisons.{score-before-falls, full-score-falls, verdict-rises}
-use Rattle.diagnosis.specs.Rows.{houseOf, foundation, storeyOf, storeyPart, endA, endB, wallOf, present, marked, itemsOf}
+use Rattle.diagnosis.specs.Rows.{foundation, snow, houseOf, storeyOf, storeyPart, endA, endB, wallOf, present, marked, itemsOf}
 use Rattle.diagnosis.specs.House.{InHouse, share, held, endHeld, narrow, requiredOf, required, endRequired, endStrengths, endBand, higherBand, storeyFloorType, layout, deterioration, strengthsWith, scoreBefore, scoreWith, fullScore, scores, leastScore, houseVerdict}
 use Rattle.diagnosis.specs.Answers.{recordOf}
 use Rattle.diagnosis.specs.Comparison.{houseMayDiffer, partsMayDiffer, mayDiffer, SameOrWorse, BandKept, NoBetter}
@@ -63,6 +63,10 @@ module _ (A B : List ℕ) (w : SameOrWorse A B) where
   foundation-same : foundation A ≡ foundation B
   foundation-same = column-same 0 5 (omega arith) refl refl
 
+  -- "two compared houses have the same snow" (document 02, request 1): it is not among the columns that may differ.
+  snow-same : snow A ≡ snow B
+  snow-same = column-same 0 7 (omega arith) refl refl
+
   parts-row-same : partsRow A ≡ partsRow B
   parts-row-same = parts-row-alike A B (w .rows) kinds-same numbers-same
 
@@ -81,7 +85,7 @@ module _ (A B : List ℕ) (w : SameOrWorse A B) where
 
   -- So a storey holds the same, and so do its ends.
   share-same : (storey : ℕ) (walls : List ℕ) → share (houseOf A) storey walls ≡ share (houseOf B) storey walls
-  share-same storey walls = fun-ext (λ row. shares.share-same (houseOf A) (houseOf B) storeys-same foundation-same storey (wallOf walls row))
+  share-same storey walls = fun-ext (λ row. shares.share-same (houseOf A) (houseOf B) storeys-same foundation-same snow-same storey (wallOf walls row))
 
   held-same : (storey direction : ℕ) → held A storey direction ≡ held B storey direction
   unfolding held
@@ -122,7 +126,7 @@ module _ (A B : List ℕ) (w : SameOrWorse A B) where
         let narrow-here : narrow A (a-part .storey) ≡ narrow B (a-part .storey) = rw here narrow-same in
         rw (← same)
         (required-rises (houseOf A) a-part (houseOf B) a-part (omega (arith, w .no-lower .heavier)) (b .house-inside 2 (omega arith) .1)
-        (omega (arith, w .no-lower .higher)) (omega (arith, w .no-lower .softer)) refl refl (le-refl (a-part .area)) (le-of-eq narrow-here))
+        (omega (arith, w .no-lower .higher)) (omega (arith, w .no-lower .softer)) (le-of-eq snow-same) (b .house-inside 7 (omega arith) .1) refl refl (le-refl (a-part .area)) (le-of-eq narrow-here))
 
     storey-required : required A storey ≤ required B storey
     unfolding required

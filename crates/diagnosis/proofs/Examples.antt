@@ -23,7 +23,7 @@ use Rattle.survey.proofs.Examples.{p1-judged, zones-known}
 use Rattle.survey.proofs.Examples as survey
 use Rattle.method.specs.Printed.{nth}
 use Rattle.method.specs.Held.{position, foundationUsed, sharedRow, entry, interpolated, rowFactor, jointFactor, solidShare, openingShare, wallShare, heldStrength}
-use Rattle.method.specs.Required.{topLine, constant, groundFactor, narrowFactor, requiredStrength}
+use Rattle.method.specs.Required.{topLine, constant, snowAddition, perArea, groundFactor, narrowFactor, requiredStrength}
 use Rattle.method.specs.LayoutFactor.{reached, band, floorType, layoutFactor}
 use Rattle.method.specs.Deterioration.{points, countedMarks, factorOf, deteriorationFactor}
 use Rattle.method.specs.Score.{score, scoreBeforeLayout, verdict}
@@ -65,7 +65,7 @@ p10-walls zone known = rw (p10-judged zone known)
 
 -- From the walls on all is computed. Laws below that name this one in their `unfolding` line unfold what it does.
 pub p1-scores : scores p1 ≡ 47 ∷ 83 ∷ []
-unfolding scores joined scoreWith scoreBefore layout higherBand endBand endRequired required requiredOf narrow deterioration storeyFloorType held endHeld solidAtEnd inDirection rowsFrom wallRows first nth position foundationUsed sharedRow entry interpolated rowFactor jointFactor solidShare openingShare wallShare heldStrength topLine constant groundFactor narrowFactor requiredStrength reached band floorType layoutFactor points countedMarks factorOf deteriorationFactor score
+unfolding scores joined scoreWith scoreBefore layout higherBand endBand endRequired required requiredOf narrow deterioration storeyFloorType held endHeld solidAtEnd inDirection rowsFrom wallRows first nth position foundationUsed sharedRow entry interpolated rowFactor jointFactor solidShare openingShare wallShare heldStrength topLine constant snowAddition perArea groundFactor narrowFactor requiredStrength reached band floorType layoutFactor points countedMarks factorOf deteriorationFactor score
 p1-scores = rw p1-walls
 
 p1-rows : reportRows p1 ≡
@@ -204,7 +204,7 @@ module _ (weight zone ground age marked : ℕ) (accepted : Judged (twoStoreys we
 
 -- From what they hold on all is computed.
 pub sound-figures : figures sound ≡ (131 ∷ 200 ∷ 350 ∷ 250 ∷ []) ∷ (188 ∷ 200 ∷ 350 ∷ 250 ∷ []) ∷ sameBands ∷ []
-unfolding endRequired required requiredOf narrow deterioration storeyFloorType wallRows first nth topLine constant groundFactor narrowFactor requiredStrength reached band floorType layoutFactor points countedMarks factorOf deteriorationFactor score
+unfolding endRequired required requiredOf narrow deterioration storeyFloorType wallRows first nth topLine constant snowAddition perArea groundFactor narrowFactor requiredStrength reached band floorType layoutFactor points countedMarks factorOf deteriorationFactor score
 sound-figures = by-walls 1 90 1 1 2048 (two-judged .0)
 
 pub heavy-figures : figures heavy ≡ (103 ∷ 157 ∷ 244 ∷ 174 ∷ []) ∷ (147 ∷ 157 ∷ 244 ∷ 174 ∷ []) ∷ sameBands ∷ []

@@ -42,8 +42,19 @@ foundation table = cell table 0 5
 abbrev pub age : List ℕ → ℕ
 age table = cell table 0 ageColumn
 
+-- "Column 8 of the house row becomes snow" (document 02, request 1).
+abbrev pub snow : List ℕ → ℕ
+snow table = cell table 0 7
+
 abbrev pub houseOf : List ℕ → House
-houseOf table = record { storeys = storeys table; weight = weight table; zone = zone table; ground = ground table; foundation = foundation table }
+houseOf table = record {
+  storeys = storeys table;
+  weight = weight table;
+  zone = zone table;
+  ground = ground table;
+  foundation = foundation table;
+  snow = snow table;
+}
 
 -- A storey's row, which is the row of its number.
 abbrev pub storeyOf : List ℕ → ℕ → Storey

@@ -17,6 +17,7 @@ use survey::columns::MARKED;
 use survey::columns::PART_STOREYS;
 use survey::columns::PRESENT;
 use survey::columns::SHORT_SIDE;
+use survey::columns::SNOW;
 use survey::columns::STOREYS;
 use survey::columns::STRENGTH;
 use survey::columns::VOID;
@@ -40,6 +41,7 @@ pub(crate) fn house_of(table: &[u32]) -> House
         zone: cell(table, 0, ZONE) as u8,
         ground: cell(table, 0, GROUND),
         foundation: cell(table, 0, FOUNDATION),
+        snow: cell(table, 0, SNOW),
     }
 }
 

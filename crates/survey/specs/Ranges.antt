@@ -40,7 +40,7 @@ houseColumns table =
     ∷ 1 to 2  -- ground: 1 ordinary, 2 very soft
     ∷ 1 to 3  -- foundation: 000's I to III
     ∷ 1 to 2  -- age: 1 under ten years, 2 ten or more
-    ∷ unused
+    ∷ 0 to 3  -- snow: 0 none, 1 for 1 m cleared, 2 for 2 m, 3 for 2.5 m (document 02, request 1)
     ∷ []
 
 -- "Storey, one each, from the ground up".

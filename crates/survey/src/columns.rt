@@ -18,6 +18,8 @@ pub const FOUNDATION: usize = 5;
 
 pub const AGE: usize = 6;
 
+pub const SNOW: usize = 7;
+
 // A storey's row:
 pub const FLOOR_AREA: usize = 2;
 

@@ -51,7 +51,7 @@ pub(crate) fn house_fault(table: &[u32]) -> Fault
         table,
         0,
         [1, 1, 1, zone, 1, 1, 1, 0],
-        [1, 3, 3, zone, 2, 3, 2, 0],
+        [1, 3, 3, zone, 2, 3, 2, 3],
         1,
     )
 }

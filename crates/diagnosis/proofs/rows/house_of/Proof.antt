@@ -21,13 +21,17 @@ cell-requires-4 c κs = search needs
 cell-requires-5 : tie.Need-cell-requires-5
 cell-requires-5 c κs = search needs
 
+cell-requires-6 : tie.Need-cell-requires-6
+cell-requires-6 c κs = search needs
+
 returns : tie.Need-returns
 returns c =
-    let at-3 = c .before .before in
+    let at-5 = c .before in
+    let at-3 = at-5 .before .before in
     let at-1 = at-3 .before .before in
     record {
       stands = at-1 .before .before .pre;
-      row = rw (at-1 .cell .ensures, at-3 .before .cell2 .ensures, at-3 .cell3 .ensures, c .before .cell4 .ensures, c .cell5 .ensures);
+      row = rw (at-1 .cell .ensures, at-3 .before .cell2 .ensures, at-3 .cell3 .ensures, at-5 .before .cell4 .ensures, at-5 .cell5 .ensures, c .cell6 .ensures);
       storeys-same = at-1 .cell .ensures;
     }
 
@@ -41,4 +45,5 @@ house-of-spec =
     cast-t5
     cell-requires-4
     cell-requires-5
+    cell-requires-6
     returns)
