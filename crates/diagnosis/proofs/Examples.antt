@@ -1,7 +1,7 @@
 -- Document 01's houses worked through, from P1's sheet to its report, by computation. Assumes nothing.
 use mathlib.Core.Path.{_≡_, refl, ap}
 use mathlib.Core.List.{List, [], _∷_}
-use Prim.Native.Nat.{ℕ, _≤_, max}
+use Prim.Native.Nat.{ℕ, _+_, _≤_, max}
 use native.Mathlib.Nat.{le-refl}
 use lib.Dec.{lit≤}
 use lib.ListN.{getD, take, replicate}
@@ -35,7 +35,7 @@ use Rattle.diagnosis.specs.Answers.{recordOf}
 use Rattle.diagnosis.specs.Comparison.{scoreAt}
 use Rattle.diagnosis.specs.Report.{resultRows, reportRows, reportBytes, reporting, refusalLine}
 use Rattle.diagnosis.specs.Program.{mostNumbers, tableOf, diagnosing, afterDiagnosing, mostReportBytes, output}
-use Rattle.diagnosis.specs.Worked.{p1Report, p10, sound, heavy, zone100, softGround, overTen, moreMarks, allWorse, figures, sameBands}
+use Rattle.diagnosis.specs.Worked.{p1Report, p10, sound, heavy, zone100, softGround, overTen, moreMarks, allWorse, snowySound, snowyWorse, weakJoints, figures, sameBands}
 
 -- P1's sheet can be read, and is P1's table.
 p1-read : reading p1Sheet mostNumbers ≡ counted 11
@@ -230,6 +230,37 @@ more-marks-figures = by-walls 1 90 1 1 2056 (two-judged .5)
 pub all-worse-figures : figures allWorse ≡ (38 ∷ 74 ∷ 116 ∷ 82 ∷ []) ∷ (70 ∷ 74 ∷ 116 ∷ 82 ∷ []) ∷ sameBands ∷ []
 unfolding sound-figures
 all-worse-figures = by-walls 2 100 2 2 2056 (two-judged .6)
+
+-- Under 1 m of snow: the sound house and the one that is worse in all five; and the house with weak joints, without snow and under 1 m.
+pub snowy-judged : Judged snowySound × Judged snowyWorse × (judging (weakJoints 0) ≡ counted 20) × (judging (weakJoints 1) ≡ counted 20)
+unfolding p10-judged
+snowy-judged = (refl, refl, refl, refl)
+
+-- The walls of two storeys, as many in each, after the ends of an accepted table.
+abbrev StoreysWalls : List ℕ → ℕ → Type 0
+StoreysWalls table each = (storeyWalls table 1 ≡ rowsFrom table 7 each) × (storeyWalls table 2 ≡ rowsFrom table (7 + each) each)
+
+snowy-walls : StoreysWalls snowySound 3 × StoreysWalls snowyWorse 3 × StoreysWalls (weakJoints 0) 6 × StoreysWalls (weakJoints 1) 6
+unfolding p1-walls
+snowy-walls = (
+  (rw (snowy-judged .0), rw (snowy-judged .0)),
+  (rw (snowy-judged .1), rw (snowy-judged .1)),
+  (rw (snowy-judged .2), rw (snowy-judged .2)),
+  (rw (snowy-judged .3), rw (snowy-judged .3)),
+)
+
+pub snowy-figures :
+    (figures snowySound ≡ (78 ∷ 152 ∷ 205 ∷ 146 ∷ []) ∷ (143 ∷ 152 ∷ 205 ∷ 146 ∷ []) ∷ sameBands ∷ [])
+    × (figures snowyWorse ≡ (30 ∷ 59 ∷ 77 ∷ 55 ∷ []) ∷ (56 ∷ 59 ∷ 77 ∷ 55 ∷ []) ∷ sameBands ∷ [])
+unfolding p1-scores
+snowy-figures = (rw (snowy-walls .0 .0, snowy-walls .0 .1), rw (snowy-walls .1 .0, snowy-walls .1 .1))
+
+-- What holds the columns down raises all four scores, on the ground with the better ends still in band C.
+pub weak-joints-figures :
+    (figures (weakJoints 0) ≡ (60 ∷ 60 ∷ 47 ∷ 47 ∷ []) ∷ (60 ∷ 60 ∷ 47 ∷ 47 ∷ []) ∷ (2 ∷ 2 ∷ 1 ∷ 1 ∷ []) ∷ [])
+    × (figures (weakJoints 1) ≡ (62 ∷ 62 ∷ 75 ∷ 75 ∷ []) ∷ (62 ∷ 62 ∷ 75 ∷ 75 ∷ []) ∷ (2 ∷ 2 ∷ 3 ∷ 3 ∷ []) ∷ [])
+unfolding p1-scores
+weak-joints-figures = (rw (snowy-walls .2 .0, snowy-walls .2 .1), rw (snowy-walls .3 .0, snowy-walls .3 .1))
 
 -- The records of the best and the worst of them, and where a record has the score of a storey and direction.
 pub worsened-records :

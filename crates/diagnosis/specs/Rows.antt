@@ -42,9 +42,12 @@ foundation table = cell table 0 5
 abbrev pub age : List ℕ → ℕ
 age table = cell table 0 ageColumn
 
--- "Column 8 of the house row becomes snow" (document 02, request 1).
+-- "Column 8 of the house row becomes snow" (document 02, request 1), which two houses compared have in common.
+abbrev pub snowColumn : ℕ
+snowColumn = 7
+
 abbrev pub snow : List ℕ → ℕ
-snow table = cell table 0 7
+snow table = cell table 0 snowColumn
 
 abbrev pub houseOf : List ℕ → House
 houseOf table = record {

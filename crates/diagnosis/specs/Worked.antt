@@ -1,8 +1,10 @@
 -- The houses that the examples of this crate speak of: those of document 01, "Houses worked through", and pairs to which demand 3 applies.
 use mathlib.Core.List.{List, [], _∷_, _++_}
-use Prim.Native.Nat.{ℕ}
+use Prim.Native.Nat.{ℕ, _+_}
+use lib.ListN.{take, drop}
 use Rattle.answer.specs.Text.{bytes}
 use Rattle.answer.specs.Houses.{twoStoreys}
+use Rattle.diagnosis.specs.Rows.{snowColumn}
 use Rattle.diagnosis.specs.House.{higherBand, scoreBefore, scores}
 
 -- P1's report, the three lines that document 01 prints.
@@ -51,6 +53,43 @@ moreMarks = twoStoreys 1 90 1 1 2056
 -- and in all of them.
 abbrev pub allWorse : List ℕ
 allWorse = twoStoreys 2 100 2 2 2056
+
+-- A house under snow: its table with another number in column 8 of the house row.
+abbrev pub underSnow : ℕ → List ℕ → List ℕ
+underSnow depth table = take snowColumn table ++ (depth ∷ drop (snowColumn + 1) table)
+
+-- The house of two storeys under 1 m of snow, and worse in all five.
+abbrev pub snowySound : List ℕ
+snowySound = underSnow 1 sound
+
+abbrev pub snowyWorse : List ℕ
+snowyWorse = underSnow 1 allWorse
+
+-- A house whose scores deeper snow raises: two storeys, very heavy, zone 100, ordinary ground, foundation I, no marks; each storey 40 m², its ends
+-- 10 m²; in each storey and direction three walls of 3.1 kN/m and 4,550 mm with joint IV, one at each place.
+abbrev pub weakJoints : ℕ → List ℕ
+weakJoints depth =
+    1 ∷ 2 ∷ 3 ∷ 100 ∷ 1 ∷ 1 ∷ 2 ∷ depth
+    ∷ 2 ∷ 1 ∷ 4000 ∷ 5000 ∷ 1 ∷ 0 ∷ 0 ∷ 0
+    ∷ 2 ∷ 2 ∷ 4000 ∷ 5000 ∷ 1 ∷ 0 ∷ 0 ∷ 0
+    ∷ 3 ∷ 1 ∷ 1 ∷ 1000 ∷ 1000 ∷ 2 ∷ 2 ∷ 0
+    ∷ 3 ∷ 1 ∷ 2 ∷ 1000 ∷ 1000 ∷ 2 ∷ 2 ∷ 0
+    ∷ 3 ∷ 2 ∷ 1 ∷ 1000 ∷ 1000 ∷ 2 ∷ 2 ∷ 0
+    ∷ 3 ∷ 2 ∷ 2 ∷ 1000 ∷ 1000 ∷ 2 ∷ 2 ∷ 0
+    ∷ 4 ∷ 1 ∷ 1 ∷ 1 ∷ 31 ∷ 4550 ∷ 4 ∷ 1
+    ∷ 4 ∷ 1 ∷ 1 ∷ 2 ∷ 31 ∷ 4550 ∷ 4 ∷ 1
+    ∷ 4 ∷ 1 ∷ 1 ∷ 3 ∷ 31 ∷ 4550 ∷ 4 ∷ 1
+    ∷ 4 ∷ 1 ∷ 2 ∷ 1 ∷ 31 ∷ 4550 ∷ 4 ∷ 1
+    ∷ 4 ∷ 1 ∷ 2 ∷ 2 ∷ 31 ∷ 4550 ∷ 4 ∷ 1
+    ∷ 4 ∷ 1 ∷ 2 ∷ 3 ∷ 31 ∷ 4550 ∷ 4 ∷ 1
+    ∷ 4 ∷ 2 ∷ 1 ∷ 1 ∷ 31 ∷ 4550 ∷ 4 ∷ 1
+    ∷ 4 ∷ 2 ∷ 1 ∷ 2 ∷ 31 ∷ 4550 ∷ 4 ∷ 1
+    ∷ 4 ∷ 2 ∷ 1 ∷ 3 ∷ 31 ∷ 4550 ∷ 4 ∷ 1
+    ∷ 4 ∷ 2 ∷ 2 ∷ 1 ∷ 31 ∷ 4550 ∷ 4 ∷ 1
+    ∷ 4 ∷ 2 ∷ 2 ∷ 2 ∷ 31 ∷ 4550 ∷ 4 ∷ 1
+    ∷ 4 ∷ 2 ∷ 2 ∷ 3 ∷ 31 ∷ 4550 ∷ 4 ∷ 1
+    ∷ 5 ∷ 8191 ∷ 0 ∷ 0 ∷ 0 ∷ 0 ∷ 0 ∷ 0
+    ∷ []
 
 -- Of a house of two storeys: its scores, its scores before the layout factor, and the bands of its better ends, storey by storey, X before Y.
 abbrev pub byPlace : (ℕ → ℕ → ℕ) → List ℕ
