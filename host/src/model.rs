@@ -1,4 +1,4 @@
-//! Document 01 as a program, a file for each of its sections.
+//! Document 01 as a program, a file for each of its sections, with the snow of document 02.
 //!
 //! It shares no code and no table with the proved library, so that the two can be compared.
 

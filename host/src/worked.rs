@@ -1,6 +1,7 @@
-//! Houses worked through in the papers: document 01's P1 and P10, and the manual's; and two sheets that are refused.
+//! Houses worked through in the papers: document 01's P1 and P10, and the manual's; P1 and another house in snow; and
+//! two sheets that are refused.
 
-use crate::{FIELD, LINE};
+use crate::{FIELD, LINE, ROW};
 
 /// P1's table; the other worked houses of document 01 are changes of it.
 #[rustfmt::skip]
@@ -26,6 +27,24 @@ pub const REPORT: &str = concat!(
     "       6       1       1     920    1600     100      83      47\n",
     "       6       1       2    1600    1600     100      83      83\n",
     "       7       4      47       0       0       0       0       0\n",
+);
+
+/// P1's table with snow in it.
+pub const fn in_snow(snow: u32) -> [u32; 88] {
+    let mut table = TABLE;
+    table[ROW - 1] = snow;
+    table
+}
+
+/// P1's least score, by its snow.
+pub const LEAST_IN_SNOW: [u32; 4] = [47, 29, 20, 18];
+
+/// P1's report in 2.5 m of snow, which adds 0.65 to the 0.40 kN/m² that its 40 m² require. Its walls of 2.0 kN/m with
+/// joint I on foundation I hold the same in any snow; its ends fall from D to B, for which floor type 1 has 100 too.
+pub const REPORT_IN_DEEP_SNOW: &str = concat!(
+    "       6       1       1     920    4200     100      83      18\n",
+    "       6       1       2    1600    4200     100      83      31\n",
+    "       7       4      18       0       0       0       0       0\n",
 );
 
 /// Sheets that are refused, each with the line that tells it: one by the reader, P1 with a leading zero in row 5,
@@ -61,6 +80,36 @@ pub const fn better_end_falls(zone: u32) -> [u32; 80] {
         5, 8191, 0, 0, 0, 0, 0, 0,
     ]
 }
+
+/// A very heavy house whose scores 1 m of snow raises: joints IV tear less where the snow holds the columns down.
+#[rustfmt::skip]
+pub const fn held_down(snow: u32) -> [u32; 160] {
+    [
+        1, 2, 3, 100, 1, 1, 2, snow,
+        2, 1, 4000, 5000, 1, 0, 0, 0,
+        2, 2, 4000, 5000, 1, 0, 0, 0,
+        3, 1, 1, 1000, 1000, 2, 2, 0,
+        3, 1, 2, 1000, 1000, 2, 2, 0,
+        3, 2, 1, 1000, 1000, 2, 2, 0,
+        3, 2, 2, 1000, 1000, 2, 2, 0,
+        4, 1, 1, 1, 31, 4550, 4, 1,
+        4, 1, 1, 2, 31, 4550, 4, 1,
+        4, 1, 1, 3, 31, 4550, 4, 1,
+        4, 1, 2, 1, 31, 4550, 4, 1,
+        4, 1, 2, 2, 31, 4550, 4, 1,
+        4, 1, 2, 3, 31, 4550, 4, 1,
+        4, 2, 1, 1, 31, 4550, 4, 1,
+        4, 2, 1, 2, 31, 4550, 4, 1,
+        4, 2, 1, 3, 31, 4550, 4, 1,
+        4, 2, 2, 1, 31, 4550, 4, 1,
+        4, 2, 2, 2, 31, 4550, 4, 1,
+        4, 2, 2, 3, 31, 4550, 4, 1,
+        5, 8191, 0, 0, 0, 0, 0, 0,
+    ]
+}
+
+/// Its scores without snow and in 1 m, cleared.
+pub const HELD_DOWN_SCORES: [[u32; 6]; 2] = [[60, 60, 47, 47, 0, 0], [62, 62, 75, 75, 0, 0]];
 
 /// The house that the manual works through: two storeys, heavy, very soft ground, foundation II, joints IV. Its
 /// openings of more than 3 m stand as rows of at most 3 m. Its marks are worth 7 of 21 points.

@@ -34,7 +34,10 @@ struct Tally {
     short_before_misprint: usize,
     /// Tables refused on another ground for whose report no space was lent.
     other_before_short: usize,
-    storeys: [usize; 4],
+    /// Tables refused for a number just over the range of snow.
+    just_over_snow: usize,
+    /// By snow, then by storeys.
+    storeys: [[usize; 4]; 4],
     verdicts: [usize; 5],
     /// By the lower band and the higher.
     bands: [[usize; 5]; 5],
@@ -42,7 +45,7 @@ struct Tally {
 
 impl Tally {
     fn count_house(&mut self, table: &[u32], record: &Record) {
-        self.storeys[record.count as usize / 2] += 1;
+        self.storeys[house::snow_of(table)][record.count as usize / 2] += 1;
         self.verdicts[record.verdict as usize] += 1;
         let diagnosis = Diagnosis::of(table).expect("the model scored it");
         for assessment in diagnosis.assessments() {
@@ -52,10 +55,9 @@ impl Tally {
     }
 
     fn assert_houses(&self, least: usize) {
-        assert!(
-            self.storeys[1..].iter().all(|&met| met >= least),
-            "{self:?}"
-        );
+        for storeys in &self.storeys {
+            assert!(storeys[1..].iter().all(|&met| met >= least), "{self:?}");
+        }
         assert!(
             self.verdicts[1..].iter().all(|&met| met >= least),
             "{self:?}"
@@ -129,8 +131,12 @@ fn check_table(random: &mut Random, table: &[u32], tally: &mut Tally) {
     assert_same(&call.table.buffer, &after, "the table that was scored");
     tally.cases += 1;
     tally.scored[number_of(&call.expected)] += 1;
-    if let Ok(record) = &call.expected {
-        tally.count_house(table, record);
+    match &call.expected {
+        Ok(record) => tally.count_house(table, record),
+        Err(refusal) => {
+            let for_snow = *refusal == Refusal::at(Refusal::OUT_OF_RANGE, 1, ROW);
+            tally.just_over_snow += usize::from(for_snow && house::snow_of(table) == 4);
+        }
     }
     check_report(random, table, tally);
 }
@@ -210,6 +216,7 @@ fn damaged_tables_are_refused_as_by_the_model() {
     tally.assert_answers(&tally.scored, &[0, 1, 3, 4, 5, 6, 7, 8], 500);
     tally.assert_answers(&tally.reported, &[0, 1, 3, 4, 5, 6, 7, 8, 9], 500);
     assert!(tally.other_before_short >= 1_000);
+    assert!(tally.just_over_snow >= 1_000, "{tally:?}");
     tally.assert_houses(50);
 }
 
@@ -244,6 +251,20 @@ fn worked_houses_are_printed_as_the_papers_have_them() {
     let in_x = [90, 100]
         .map(|zone| library::score(&worked::better_end_falls(zone)).map(|it| it.scores[0]));
     assert_eq!(in_x, [Ok(11), Ok(14)]);
+}
+
+#[test]
+fn worked_houses_in_snow() {
+    let leasts = [0, 1, 2, 3].map(|snow| {
+        let record = library::score(&worked::in_snow(snow)).expect("it is accepted");
+        record.scores[0].min(record.scores[1])
+    });
+    assert_eq!(leasts, worked::LEAST_IN_SNOW);
+    let printed = library::diagnose(&sheet_of(&worked::in_snow(3)));
+    assert_eq!(printed, worked::REPORT_IN_DEEP_SNOW.as_bytes());
+    let scores =
+        [0, 1].map(|snow| library::score(&worked::held_down(snow)).map(|record| record.scores));
+    assert_eq!(scores, worked::HELD_DOWN_SCORES.map(Ok));
 }
 
 #[test]

@@ -22,11 +22,13 @@ const WORSENED: [(usize, &[u32]); 4] = [
 #[derive(Debug, Default)]
 struct Tally {
     equal: usize,
-    all_bands_kept: usize,
+    /// By snow.
+    all_bands_kept: [usize; 4],
     some_band_kept: usize,
     no_band_kept: usize,
     risen_where_not_kept: usize,
-    fallen_where_kept: usize,
+    /// By snow.
+    fallen_where_kept: [usize; 4],
     verdict_worse: usize,
 }
 
@@ -72,6 +74,8 @@ fn worse_house(random: &mut Random, table: &[u32]) -> Vec<u32> {
 }
 
 fn compare(better: &[u32], worse: &[u32], tally: &mut Tally) {
+    let snow = house::snow_of(better);
+    assert_eq!(house::snow_of(worse), snow);
     let (a, b) = (scored(better), scored(worse));
     let count = a.record.count as usize;
     assert_eq!(b.record.count as usize, count);
@@ -85,7 +89,7 @@ fn compare(better: &[u32], worse: &[u32], tally: &mut Tally) {
         if a.higher_bands[each] == b.higher_bands[each] {
             assert!(score_b <= score_a, "{better:?} and {worse:?}");
             kept += 1;
-            tally.fallen_where_kept += usize::from(score_b < score_a);
+            tally.fallen_where_kept[snow] += usize::from(score_b < score_a);
         } else {
             tally.risen_where_not_kept += usize::from(score_b > score_a);
         }
@@ -95,7 +99,7 @@ fn compare(better: &[u32], worse: &[u32], tally: &mut Tally) {
             b.record.verdict >= a.record.verdict,
             "{better:?} and {worse:?}"
         );
-        tally.all_bands_kept += 1;
+        tally.all_bands_kept[snow] += 1;
         tally.verdict_worse += usize::from(b.record.verdict > a.record.verdict);
     } else if kept > 0 {
         tally.some_band_kept += 1;
@@ -117,14 +121,14 @@ fn a_house_worse_off_is_not_scored_better() {
     println!("{tally:?}");
     let met = [
         tally.equal,
-        tally.all_bands_kept,
         tally.some_band_kept,
         tally.no_band_kept,
         tally.risen_where_not_kept,
-        tally.fallen_where_kept,
         tally.verdict_worse,
     ];
-    assert!(met.iter().all(|&met| met >= 500));
+    let by_snow = [tally.all_bands_kept, tally.fallen_where_kept];
+    let met = met.iter().chain(by_snow.as_flattened());
+    assert!(met.copied().all(|met| met >= 500));
 }
 
 /// P10: the better end falls from B to A, and the score rises from 11 to 14. So the comparison needs its condition.
@@ -134,4 +138,16 @@ fn a_score_rises_where_the_better_end_falls() {
     let [better, worse] = [90, 100].map(worked::better_end_falls);
     compare(&better, &worse, &mut tally);
     assert_eq!((tally.some_band_kept, tally.risen_where_not_kept), (1, 1));
+}
+
+/// Snow can raise a score, before the layout factor too, and on the ground the better end keeps its band. So the houses
+/// compared have the same snow.
+#[test]
+fn a_score_rises_with_snow() {
+    let [bare, snowed] = [0, 1].map(|snow| scored(&worked::held_down(snow)));
+    assert_eq!(bare.record.scores, worked::HELD_DOWN_SCORES[0]);
+    assert_eq!(snowed.record.scores, worked::HELD_DOWN_SCORES[1]);
+    assert_eq!(bare.before_layout, [60, 60, 47, 47]);
+    assert_eq!(snowed.before_layout, [62, 62, 75, 75]);
+    assert_eq!(bare.higher_bands[..2], snowed.higher_bands[..2]);
 }

@@ -6,10 +6,14 @@ use std::fs;
 
 use girderbasil_host::answers::Refusal;
 use girderbasil_host::model::{self, sheet};
+use girderbasil_host::random::house;
 use girderbasil_host::{MOST_REPORT_BYTES, MOST_ROWS, ROW};
 
 /// The least houses that are run, so that an empty list does not pass.
 const LEAST: usize = 80;
+
+/// The least of them that are scored in each snow.
+const LEAST_IN_SNOW: usize = 3;
 
 /// What is answered for a sheet with so many bytes lent for its report.
 fn answer(sheet: &[u8], lent: usize) -> Result<usize, Refusal> {
@@ -31,12 +35,15 @@ fn the_model_prints_what_is_expected_of_the_program() {
     let folder = common::top().join("crates/run_houses");
     let names = fs::read_to_string(folder.join("args")).expect("the houses' names");
     let mut printed = Vec::new();
+    let mut snow = [0; 4];
     for name in names.lines() {
         let sheet = fs::read(folder.join("data").join(name)).expect("a house's sheet");
         printed.extend(name.bytes());
         printed.push(b'\n');
         printed.extend(model::diagnose(&sheet));
         if let Ok(count) = answer(&sheet, MOST_REPORT_BYTES) {
+            let table = model::read(&sheet, MOST_ROWS * ROW).expect("it was scored");
+            snow[house::snow_of(&table)] += 1;
             print_answer(answer(&sheet, count), &mut printed);
             print_answer(answer(&sheet, count - 1), &mut printed);
         }
@@ -48,4 +55,5 @@ fn the_model_prints_what_is_expected_of_the_program() {
         String::from_utf8(expected).expect("it is text")
     );
     assert!(names.lines().count() >= LEAST);
+    assert!(snow.iter().all(|&met| met >= LEAST_IN_SNOW), "{snow:?}");
 }

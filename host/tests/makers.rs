@@ -1,5 +1,8 @@
 //! The makers of houses: what they make is accepted, and varied enough for the other tests to mean something.
 
+use std::collections::BTreeMap;
+
+use girderbasil_host::ROW;
 use girderbasil_host::model::score::Diagnosis;
 use girderbasil_host::random::{Random, house};
 
@@ -35,15 +38,15 @@ fn all_pairs_of_bands_are_met() {
     }
 }
 
-/// How often each score is met in houses of a maker; all must be accepted.
-fn scores_met(seed: u64, maker: fn(&mut Random) -> Vec<u32>) -> [usize; 1_000] {
+/// How often each score is met in houses of a maker, by their snow; all must be accepted.
+fn scores_met(seed: u64, maker: fn(&mut Random) -> Vec<u32>) -> [[usize; 1_000]; 4] {
     let mut random = Random::new(seed);
-    let mut met = [0; 1_000];
+    let mut met = [[0; 1_000]; 4];
     for _ in 0..HOUSES {
         let table = maker(&mut random);
         let diagnosis = Diagnosis::of(&table).expect("a house is accepted");
         for assessment in diagnosis.assessments() {
-            met[assessment.score() as usize] += 1;
+            met[house::snow_of(&table)][assessment.score() as usize] += 1;
         }
     }
     met
@@ -52,18 +55,63 @@ fn scores_met(seed: u64, maker: fn(&mut Random) -> Vec<u32>) -> [usize; 1_000] {
 #[test]
 fn scores_of_surveyed_houses_spread() {
     let met = scores_met(6, house::surveyed);
-    for tens in met.chunks(10) {
-        assert!(tens.iter().sum::<usize>() >= 10, "{met:?}");
+    for start in (0..1_000).step_by(10) {
+        let tens = met.iter().flat_map(|scores| &scores[start..start + 10]);
+        assert!(tens.sum::<usize>() >= 10, "{start}: {met:?}");
     }
 }
 
-/// The edges of the verdicts are met exactly, and just missed.
+/// The edges of the verdicts are met exactly, and just missed, in every snow.
 #[test]
 fn edges_of_scores_are_met() {
-    let met = scores_met(7, house::on_edges);
-    for score in [69, 70, 99, 100, 149, 150, 998, 999] {
-        assert!(met[score] >= 100, "{score} was met {} times", met[score]);
+    for (snow, met) in scores_met(7, house::on_edges).iter().enumerate() {
+        for score in [69, 70, 99, 100, 149, 150, 998, 999] {
+            let met = met[score];
+            assert!(met >= 50, "snow {snow}: {score} was met {met} times");
+        }
     }
+}
+
+#[test]
+fn half_of_the_houses_are_in_snow() {
+    for maker in [
+        house::surveyed as fn(&mut Random) -> Vec<u32>,
+        house::on_edges,
+        house::extreme,
+    ] {
+        let mut random = Random::new(18);
+        let mut met = [0_usize; 4];
+        for _ in 0..HOUSES {
+            met[house::snow_of(&maker(&mut random))] += 1;
+        }
+        assert!(met[0].abs_diff(HOUSES / 2) < HOUSES / 20, "{met:?}");
+        assert!(met.iter().all(|&met| met >= HOUSES / 7), "{met:?}");
+    }
+}
+
+/// Every joint factor that is printed is met by walls of its strength: in every snow, at the top, below it and in one
+/// storey, on every foundation, with every joint.
+#[test]
+fn every_printed_joint_factor_is_met() {
+    let mut random = Random::new(19);
+    let mut met = BTreeMap::new();
+    for _ in 0..HOUSES {
+        let table = house::extreme(&mut random);
+        let (snow, storeys) = (house::snow_of(&table), table[1]);
+        let printed = |row: &&[u32]| row[0] == 4 && [20, 30, 50, 70].contains(&row[4]);
+        for wall in table.chunks(ROW).filter(printed) {
+            let (position, foundation) = match (storeys, wall[1]) {
+                (1, _) => ("one storey", table[5]),
+                (2, 2) | (3, 3) => ("top storey", table[5]),
+                (3, 2) => ("lower storey", 1),
+                _ => ("lower storey", table[5]),
+            };
+            let factor = (snow, position, foundation, wall[6], wall[4]);
+            *met.entry(factor).or_insert(0) += 1;
+        }
+    }
+    assert_eq!(met.len(), 4 * 3 * 3 * 4 * 4);
+    assert!(met.values().all(|&met| met >= 50), "{met:?}");
 }
 
 #[test]

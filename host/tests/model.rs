@@ -4,8 +4,8 @@ use girderbasil_host::answers::{Record, Refusal};
 use girderbasil_host::model::deterioration::{self, Fraction};
 use girderbasil_host::model::layout::Band;
 use girderbasil_host::model::score::{Diagnosis, verdict};
-use girderbasil_host::model::survey::{House, Parts, Wall, WallKind};
-use girderbasil_host::model::{self, held};
+use girderbasil_host::model::survey::{Ends, House, Parts, Storey, Wall, WallKind};
+use girderbasil_host::model::{self, held, required};
 use girderbasil_host::worked;
 use girderbasil_host::{LINE, MOST_REPORT_BYTES, MOST_ROWS, ROW};
 
@@ -51,6 +51,7 @@ fn two_storeys(foundation: u32) -> House {
         ground: 1,
         foundation,
         age: 2,
+        snow: 0,
     }
 }
 
@@ -168,6 +169,112 @@ fn the_manuals_house() {
 }
 
 #[test]
+fn p1_in_snow() {
+    for (snow, least) in (0..).zip(worked::LEAST_IN_SNOW) {
+        let table = worked::in_snow(snow);
+        let record = model::score(&table).unwrap();
+        assert_eq!(record.scores[..2].iter().min(), Some(&least));
+        // What the snow adds is for the ends too.
+        let band = if snow == 0 { Band::D } else { Band::B };
+        let diagnosis = Diagnosis::of(&table).unwrap();
+        assert!(diagnosis.assessments().all(|each| each.bands == [band; 2]));
+    }
+    let report = model::write_report(&worked::in_snow(3), MOST_REPORT_BYTES).unwrap();
+    assert_eq!(report, worked::REPORT_IN_DEEP_SNOW.as_bytes());
+}
+
+#[test]
+fn snow_raises_a_score() {
+    for (snow, scores) in (0..).zip(worked::HELD_DOWN_SCORES) {
+        let record = model::score(&worked::held_down(snow)).unwrap();
+        assert_eq!(record.scores, scores);
+    }
+}
+
+/// Without snow, in 1 m, in 2 m and in 2.5 m. Where two of the manual's tables have an entry in common, another row tells
+/// them apart; only part 2 is the same in 2 m and in 2.5 m.
+#[test]
+fn joint_factors_in_snow() {
+    // Storeys, storey, foundation, joint and strength.
+    for ([storeys, storey, foundation, joint, strength], factors) in [
+        // The top storey, on its printed entries and between them.
+        ([2, 2, 1, 2, 70], [50, 75, 80, 85]),
+        ([2, 2, 2, 3, 30], [60, 75, 85, 90]),
+        ([2, 2, 3, 4, 50], [25, 60, 75, 80]),
+        ([3, 3, 1, 4, 40], [30, 68, 80, 85]),
+        ([3, 3, 3, 2, 60], [58, 80, 83, 88]),
+        // The other storeys; the middle one of three goes by foundation 1.
+        ([2, 1, 1, 2, 50], [90, 95, 100, 100]),
+        ([2, 1, 2, 1, 70], [80, 85, 95, 95]),
+        ([2, 1, 3, 1, 50], [70, 85, 95, 95]),
+        ([2, 1, 1, 3, 60], [65, 80, 93, 93]),
+        ([3, 1, 3, 4, 70], [60, 75, 90, 90]),
+        ([3, 2, 3, 2, 70], [80, 95, 100, 100]),
+        // One storey; joint 3 goes by the row of joint 4.
+        ([1, 1, 3, 1, 30], [70, 75, 85, 100]),
+        ([1, 1, 2, 1, 70], [80, 80, 85, 90]),
+        ([1, 1, 2, 2, 50], [70, 70, 80, 95]),
+        ([1, 1, 2, 4, 50], [50, 65, 80, 90]),
+        ([1, 1, 3, 4, 50], [50, 65, 75, 90]),
+        ([1, 1, 1, 3, 70], [30, 35, 50, 60]),
+        ([1, 1, 1, 4, 25], [65, 88, 93, 100]),
+        // Below 2.0 and above 7.0.
+        ([1, 1, 1, 4, 1], [70, 100, 100, 100]),
+        ([1, 1, 1, 4, 300], [30, 35, 50, 60]),
+    ] {
+        let found = [0, 1, 2, 3].map(|snow| {
+            let house = House {
+                storeys,
+                snow,
+                ..two_storeys(foundation)
+            };
+            held::joint_factor(&house, storey, joint, strength)
+        });
+        assert_eq!(
+            found, factors,
+            "{storey} of {storeys}, {foundation}, {joint}, {strength}"
+        );
+    }
+}
+
+/// Zone, ground and narrow factor apply to the sum, of a storey and of its ends; one of these has a storey less.
+#[test]
+fn required_strength_in_snow() {
+    let storey = Storey {
+        number: 1,
+        area: 4000,
+        short_side: 3999,
+        floor: 1,
+        void: false,
+    };
+    let ends = Ends {
+        areas: [1000, 500],
+        storeys: [2, 1],
+    };
+    for (snow, addition) in (0..).zip([0, 26, 52, 65]) {
+        let house = House {
+            weight: 3,
+            zone: 90,
+            ground: 2,
+            snow,
+            ..two_storeys(1)
+        };
+        let factors = 90 * 15 * 113;
+        assert_eq!(
+            required::storey(&house, &storey),
+            (141 + addition) * 4000 * factors
+        );
+        assert_eq!(
+            required::ends(&house, &storey, &ends),
+            [
+                (141 + addition) * 1000 * factors,
+                (64 + addition) * 500 * factors
+            ]
+        );
+    }
+}
+
+#[test]
 fn refused_sheets_are_told_with_row_before_column() {
     for (sheet, line) in worked::refused() {
         assert_eq!(String::from_utf8_lossy(&model::diagnose(&sheet)), line);
@@ -219,7 +326,8 @@ fn refusals_of_scoring_in_their_order() {
     let judged = |changes: &[(usize, usize, u32)]| model::score(&changed(changes)).unwrap_err();
     assert_eq!(judged(&[(1, 1, 2)]), refused(3, 1, 1));
     assert_eq!(judged(&[(2, 2, 2), (2, 3, 0)]), refused(3, 2, 1));
-    assert_eq!(judged(&[(1, 4, 75), (1, 8, 1)]), refused(4, 1, 4));
+    assert_eq!(judged(&[(1, 4, 75), (1, 8, 4)]), refused(4, 1, 4));
+    assert_eq!(judged(&[(1, 8, 4)]), refused(4, 1, 8));
     assert_eq!(judged(&[(3, 3, 2)]), refused(3, 3, 1));
     assert_eq!(judged(&[(5, 2, 0)]), refused(4, 5, 2));
     assert_eq!(judged(&[(6, 2, 0), (6, 3, 3)]), refused(3, 6, 1));

@@ -3,7 +3,7 @@
 mod common;
 
 use girderbasil_host::random::{Random, house};
-use girderbasil_host::{LINE, MOST_ROWS, model, worked};
+use girderbasil_host::{LINE, MOST_ROWS, ROW, model, worked};
 
 const SHEETS: usize = 400;
 
@@ -29,6 +29,7 @@ fn refusal_number(printed: &[u8]) -> usize {
 fn the_program_prints_what_the_model_does() {
     let mut random = Random::new(10);
     let mut met = [0; 10];
+    let mut snow = [0; 4];
     for _ in 0..SHEETS {
         let sheet = common::any_sheet(&mut random);
         let printed = printed(&sheet);
@@ -38,12 +39,18 @@ fn the_program_prints_what_the_model_does() {
             "{}",
             String::from_utf8_lossy(&sheet)
         );
-        met[refusal_number(&printed)] += 1;
+        let number = refusal_number(&printed);
+        met[number] += 1;
+        if number == 0 {
+            let table = model::read(&sheet, MOST_ROWS * ROW).expect("it was scored");
+            snow[house::snow_of(&table)] += 1;
+        }
     }
     assert!(
         met[..9].iter().all(|&met| met >= 2) && met[0] >= SHEETS / 5,
         "{met:?}"
     );
+    assert!(snow.iter().all(|&met| met >= 5), "{snow:?}");
 }
 
 #[test]
@@ -51,6 +58,8 @@ fn worked_houses() {
     assert_eq!(printed(worked::SHEET), worked::REPORT.as_bytes());
     let sheet = model::write(&worked::MANUAL_TABLE, usize::MAX).expect("it has a sheet");
     assert_eq!(printed(&sheet), worked::MANUAL_REPORT.as_bytes());
+    let sheet = model::write(&worked::in_snow(3), usize::MAX).expect("it has a sheet");
+    assert_eq!(printed(&sheet), worked::REPORT_IN_DEEP_SNOW.as_bytes());
 }
 
 #[test]

@@ -2,29 +2,99 @@
 
 use super::survey::{House, Survey, Wall, WallKind};
 
-/// The manual's reference 2, the joint factors outside snow areas, in hundredths, as printed.
-///
-/// Part 1, the top storey of two or three: a row for each joint, a column for each of [`STRENGTHS`].
-const TOP_STOREY: [[u32; 4]; 4] = [
-    [100, 100, 100, 100],
-    [100, 80, 65, 50],
-    [70, 60, 45, 35],
-    [70, 35, 25, 20],
-];
+/// The joint factors that are printed for one state of the snow, in hundredths.
+struct JointFactors {
+    /// Part 1, the top storey of two or three: a row for each joint, a column for each of [`STRENGTHS`].
+    top_storey: [[u32; 4]; 4],
+    /// Part 2, the other storeys of two or three: each strength has a column for each foundation.
+    lower_storey: [[[u32; 3]; 4]; 4],
+    /// Part 3, one storey: joints 3 and 4 share the last row.
+    one_storey: [[[u32; 3]; 4]; 3],
+}
 
-/// Part 2, the other storeys of two or three: each strength has a column for each foundation.
-const LOWER_STOREY: [[[u32; 3]; 4]; 4] = [
-    [[100, 100, 100], [100, 90, 80], [100, 85, 70], [100, 80, 60]],
-    [[100, 100, 100], [100, 90, 80], [90, 80, 70], [80, 70, 60]],
-    [[100, 100, 100], [80, 80, 80], [70, 70, 70], [60, 60, 60]],
-    [[100, 100, 100], [80, 80, 80], [70, 70, 70], [60, 60, 60]],
-];
-
-/// Part 3, one storey: joints 3 and 4 share the last row.
-const ONE_STOREY: [[[u32; 3]; 4]; 3] = [
-    [[100, 85, 70], [100, 85, 70], [100, 80, 70], [100, 80, 70]],
-    [[100, 85, 70], [90, 75, 70], [85, 70, 65], [80, 70, 60]],
-    [[70, 70, 70], [60, 60, 60], [50, 50, 50], [30, 30, 30]],
+/// The manual's joint factors as printed, by the house's snow: its reference 2 without snow, its table 4.4 with snow.
+#[rustfmt::skip]
+static JOINT_FACTORS: [JointFactors; 4] = [
+    // Outside snow areas.
+    JointFactors {
+        top_storey: [
+            [100, 100, 100, 100],
+            [100,  80,  65,  50],
+            [ 70,  60,  45,  35],
+            [ 70,  35,  25,  20],
+        ],
+        lower_storey: [
+            [[100, 100, 100], [100,  90,  80], [100,  85,  70], [100,  80,  60]],
+            [[100, 100, 100], [100,  90,  80], [ 90,  80,  70], [ 80,  70,  60]],
+            [[100, 100, 100], [ 80,  80,  80], [ 70,  70,  70], [ 60,  60,  60]],
+            [[100, 100, 100], [ 80,  80,  80], [ 70,  70,  70], [ 60,  60,  60]],
+        ],
+        one_storey: [
+            [[100,  85,  70], [100,  85,  70], [100,  80,  70], [100,  80,  70]],
+            [[100,  85,  70], [ 90,  75,  70], [ 85,  70,  65], [ 80,  70,  60]],
+            [[ 70,  70,  70], [ 60,  60,  60], [ 50,  50,  50], [ 30,  30,  30]],
+        ],
+    },
+    // 1 m, cleared.
+    JointFactors {
+        top_storey: [
+            [100, 100, 100, 100],
+            [100,  90,  85,  75],
+            [100,  75,  65,  55],
+            [100,  75,  60,  50],
+        ],
+        lower_storey: [
+            [[100, 100, 100], [100, 100, 100], [100,  90,  85], [100,  85,  75]],
+            [[100, 100, 100], [100, 100, 100], [ 95,  90,  85], [ 95,  85,  75]],
+            [[100, 100, 100], [100, 100, 100], [ 85,  85,  85], [ 75,  75,  75]],
+            [[100, 100, 100], [100, 100, 100], [ 85,  85,  85], [ 75,  75,  75]],
+        ],
+        one_storey: [
+            [[100, 100, 100], [100,  85,  75], [100,  80,  70], [100,  80,  70]],
+            [[100, 100, 100], [ 90,  80,  75], [ 85,  70,  65], [ 80,  70,  60]],
+            [[100, 100, 100], [ 75,  75,  75], [ 65,  65,  65], [ 35,  35,  35]],
+        ],
+    },
+    // 2 m. In one storey, the last row's 75 for foundation 3 beside 80 for the others is printed so.
+    JointFactors {
+        top_storey: [
+            [100, 100, 100, 100],
+            [100,  95,  85,  80],
+            [100,  85,  75,  70],
+            [100,  85,  75,  70],
+        ],
+        lower_storey: [
+            [[100, 100, 100], [100, 100, 100], [100,  95,  95], [100,  95,  90]],
+            [[100, 100, 100], [100, 100, 100], [100,  95,  95], [100,  95,  90]],
+            [[100, 100, 100], [100, 100, 100], [ 95,  95,  95], [ 90,  90,  90]],
+            [[100, 100, 100], [100, 100, 100], [ 95,  95,  95], [ 90,  90,  90]],
+        ],
+        one_storey: [
+            [[100, 100, 100], [100,  90,  85], [100,  85,  75], [100,  85,  75]],
+            [[100, 100, 100], [ 95,  90,  85], [ 85,  80,  75], [ 80,  75,  70]],
+            [[100, 100, 100], [ 85,  85,  85], [ 80,  80,  75], [ 50,  50,  50]],
+        ],
+    },
+    // 2.5 m.
+    JointFactors {
+        top_storey: [
+            [100, 100, 100, 100],
+            [100,  95,  90,  85],
+            [100,  90,  80,  75],
+            [100,  90,  80,  75],
+        ],
+        lower_storey: [
+            [[100, 100, 100], [100, 100, 100], [100,  95,  95], [100,  95,  90]],
+            [[100, 100, 100], [100, 100, 100], [100,  95,  95], [100,  95,  90]],
+            [[100, 100, 100], [100, 100, 100], [ 95,  95,  95], [ 90,  90,  90]],
+            [[100, 100, 100], [100, 100, 100], [ 95,  95,  95], [ 90,  90,  90]],
+        ],
+        one_storey: [
+            [[100, 100, 100], [100, 100, 100], [100,  95,  95], [100,  90,  80]],
+            [[100, 100, 100], [100, 100, 100], [100,  95,  95], [100,  75,  70]],
+            [[100, 100, 100], [100, 100, 100], [ 90,  90,  90], [ 60,  60,  60]],
+        ],
+    },
 ];
 
 /// The strengths that the joint factors are printed for, in 0.1 kN/m.
@@ -89,14 +159,15 @@ pub fn joint_factor(house: &House, storey: u32, joint: u32, strength: u32) -> u3
     (2 * weighed + span) / (2 * span)
 }
 
-/// An entry of reference 2, by the column of its strength.
+/// A printed joint factor, by the column of its strength.
 fn printed_factor(house: &House, storey: u32, joint: u32, column: usize) -> u32 {
+    let printed = &JOINT_FACTORS[house.snow as usize];
     let joint = joint as usize - 1;
     let foundation = house.foundation as usize - 1;
     match (house.storeys, storey) {
-        (1, _) => ONE_STOREY[joint.min(2)][column][foundation],
-        (2, 2) | (3, 3) => TOP_STOREY[joint][column],
-        (3, 2) => LOWER_STOREY[joint][column][0],
-        _ => LOWER_STOREY[joint][column][foundation],
+        (1, _) => printed.one_storey[joint.min(2)][column][foundation],
+        (2, 2) | (3, 3) => printed.top_storey[joint][column],
+        (3, 2) => printed.lower_storey[joint][column][0],
+        _ => printed.lower_storey[joint][column][foundation],
     }
 }

@@ -10,6 +10,10 @@ const CONSTANTS: [&[[u64; 3]]; 3] = [
     &[[134, 166, 207], [98, 125, 159], [43, 62, 91]],
 ];
 
+/// What snow adds to a constant, in 0.01 kN/m², by the house's snow. The manual's section 4.1 has 26 for 1 m and 52 for
+/// 2 m; 65 for 2.5 m is the same straight line carried on.
+const ADDITIONS: [u64; 4] = [0, 26, 52, 65];
+
 /// The required strength of a storey, the same in both directions.
 pub fn storey(house: &House, storey: &Storey) -> u64 {
     strength(house, storey, storey.area, house.storeys)
@@ -22,7 +26,7 @@ pub fn ends(house: &House, storey: &Storey, ends: &Ends) -> [u64; 2] {
 
 fn strength(house: &House, storey: &Storey, area: u32, part_storeys: u32) -> u64 {
     let ground = if house.ground == 1 { 10 } else { 15 };
-    constant(house.weight, part_storeys, storey.number)
+    (constant(house.weight, part_storeys, storey.number) + ADDITIONS[house.snow as usize])
         * u64::from(area)
         * u64::from(house.zone)
         * ground

@@ -23,7 +23,8 @@ pub struct Survey<'table> {
     walls: &'table [Row],
 }
 
-/// Weight class, ground, foundation and age are document 01's numbers for them; the zone is in hundredths.
+/// Weight class, ground, foundation and age are document 01's numbers for them; the zone is in hundredths. Snow is
+/// document 02's: 0 none, 1 for 1 m cleared, 2 for 2 m, 3 for 2.5 m.
 #[derive(Debug, Clone, Copy)]
 pub struct House {
     pub storeys: u32,
@@ -32,6 +33,7 @@ pub struct House {
     pub ground: u32,
     pub foundation: u32,
     pub age: u32,
+    pub snow: u32,
 }
 
 /// The area is in 0.01 m², the short side in mm.
@@ -168,7 +170,7 @@ fn judge_columns(index: usize, in_range: [bool; ROW]) -> Result<(), Refusal> {
 }
 
 fn judge_house(rows: &[Row]) -> Result<House, Refusal> {
-    let [_, storeys, weight, zone, ground, foundation, age, unused] = *due(rows, 0, &[HOUSE])?;
+    let [_, storeys, weight, zone, ground, foundation, age, snow] = *due(rows, 0, &[HOUSE])?;
     let in_range = [
         true,
         matches!(storeys, 1..=3),
@@ -177,7 +179,7 @@ fn judge_house(rows: &[Row]) -> Result<House, Refusal> {
         matches!(ground, 1..=2),
         matches!(foundation, 1..=3),
         matches!(age, 1..=2),
-        unused == 0,
+        matches!(snow, 0..=3),
     ];
     judge_columns(0, in_range)?;
     Ok(House {
@@ -187,6 +189,7 @@ fn judge_house(rows: &[Row]) -> Result<House, Refusal> {
         ground,
         foundation,
         age,
+        snow,
     })
 }
 

@@ -39,7 +39,7 @@ pub fn damage_table(random: &mut Random, table: &mut Vec<u32>) {
 }
 
 fn damage_table_once(random: &mut Random, table: &mut Vec<u32>) {
-    match random.below(16) {
+    match random.below(17) {
         0 => change_number(random, table, |random, number| {
             number.wrapping_add(random.pick(&[1, 2, u32::MAX]))
         }),
@@ -57,7 +57,8 @@ fn damage_table_once(random: &mut Random, table: &mut Vec<u32>) {
         12 => lengthen(random, table),
         13 => exceed_storey(random, table),
         14 => mark_absent_part(random, table),
-        _ => remove_parts(random, table),
+        15 => remove_parts(random, table),
+        _ => change_snow(random, table),
     }
 }
 
@@ -208,6 +209,13 @@ fn remove_parts(random: &mut Random, table: &mut [u32]) {
         if clear_marks {
             *marked = 0;
         }
+    }
+}
+
+/// Puts other snow into the house row, or a number just over that range.
+fn change_snow(random: &mut Random, table: &mut [u32]) {
+    if let Some([.., snow]) = table.first_chunk_mut::<ROW>() {
+        *snow = random.between(0, 5);
     }
 }
 

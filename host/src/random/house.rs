@@ -5,6 +5,9 @@ use super::Random;
 const ALL_PARTS: u32 = 8191;
 const ZONES: [u32; 4] = [70, 80, 90, 100];
 
+/// Half of the houses are without snow.
+const SNOW: [u32; 6] = [0, 0, 0, 1, 2, 3];
+
 /// Strengths on and beside those where the joint factor or the strength that counts changes its course.
 const STRENGTHS: [u32; 18] = [
     1, 19, 20, 21, 29, 30, 31, 49, 50, 51, 69, 70, 71, 99, 100, 101, 299, 300,
@@ -16,8 +19,16 @@ const LENGTHS: [u32; 7] = [1, 2, 2_999, 3_000, 3_001, 19_999, 20_000];
 /// Short sides on and beside the ends of their range and the least that isn't narrow.
 const SHORT_SIDES: [u32; 5] = [500, 3_999, 4_000, 4_001, 50_000];
 
-/// The area, in 0.01 m², that requires 100 mm of wall in a house that [`on_edges`] makes.
-const UNIT_AREA: u32 = 50;
+/// What a house that [`on_edges`] makes requires, in 0.01 kN/m², by its snow: 28 and what the snow adds.
+const REQUIRED_ON_EDGES: [u32; 4] = [28, 54, 80, 93];
+
+/// The area, in 0.01 m², that requires 100 mm of wall in such a house.
+const UNIT_AREA: u32 = 100;
+
+/// The snow of a house, by its table.
+pub fn snow_of(table: &[u32]) -> usize {
+    table[7] as usize
+}
 
 /// A house of any of the sorts below.
 pub fn house(random: &mut Random) -> Vec<u32> {
@@ -94,19 +105,22 @@ pub fn with_walls(random: &mut Random, storeys: u32, count: u32) -> Vec<u32> {
 /// A house of one storey whose ends are on the edge of a band, and whose walls would be on the edge of a verdict, or of
 /// the most that is scored, but for layout and rot; or they are 1 mm of wall short of it.
 ///
-/// It is heavy, in zone 100 on ordinary ground, and its walls hold 2 kN a metre; so a millimetre of wall is a hundredth
-/// of what half a square metre requires.
+/// It is light, in zone 100 on ordinary ground, and its walls hold as many tenths of 1 kN a metre as it requires
+/// hundredths of 1 kN a square metre; so a millimetre of wall is a hundredth of what a square metre requires. On
+/// foundation 1 joint 1 lessens no wall of one storey, whatever its strength and the snow.
 pub fn on_edges(random: &mut Random) -> Vec<u32> {
     let age = random.between(1, 2);
+    let snow = random.pick(&SNOW);
+    let strength = REQUIRED_ON_EDGES[snow as usize];
     let size = random.between(2, 100);
-    let mut table = vec![1, 1, 2, 100, 1, 1, age, 0];
+    let mut table = vec![1, 1, 1, 100, 1, 1, age, snow];
     table.extend(storey_row(random, 1, size * UNIT_AREA, 5_000));
     let mut walls = Vec::new();
     for direction in 1..=2 {
         let ends = [0, 1].map(|_| random.mostly_small(1, size / 2));
         let [a, b] = ends.map(|end| end * UNIT_AREA);
         table.extend([3, 1, direction, a, b, 1, 1, 0]);
-        walls.extend(walls_on_edges(random, direction, size, ends));
+        walls.extend(walls_on_edges(random, direction, strength, size, ends));
     }
     table.extend(walls);
     let marked = random.pick(&[0, 0, 8, ALL_PARTS]);
@@ -114,17 +128,23 @@ pub fn on_edges(random: &mut Random) -> Vec<u32> {
     table
 }
 
-fn walls_on_edges(random: &mut Random, direction: u32, size: u32, ends: [u32; 2]) -> Vec<u32> {
+fn walls_on_edges(
+    random: &mut Random,
+    direction: u32,
+    strength: u32,
+    size: u32,
+    ends: [u32; 2],
+) -> Vec<u32> {
     let mut length = |size, edges: &[u32]| size * random.pick(edges) - random.between(0, 1);
     let [a, b] = ends.map(|end| length(end, &[33, 66, 100, 133]));
     let mut rest = length(size, &[70, 100, 150, 999, 1_000]).saturating_sub(a + b);
     let mut walls = Vec::new();
     for (place, length) in [(1, a), (3, b)] {
-        walls.extend([4, 1, direction, place, 20, length, 1, 1]);
+        walls.extend([4, 1, direction, place, strength, length, 1, 1]);
     }
     while rest > 0 {
         let length = rest.min(20_000);
-        walls.extend([4, 1, direction, 2, 20, length, 1, 1]);
+        walls.extend([4, 1, direction, 2, strength, length, 1, 1]);
         rest -= length;
     }
     walls
@@ -134,7 +154,8 @@ fn house_row(random: &mut Random, storeys: u32) -> [u32; 8] {
     let [weight, foundation] = [0, 1].map(|_| random.between(1, 3));
     let [ground, age] = [0, 1].map(|_| random.between(1, 2));
     let zone = random.pick(&ZONES);
-    [1, storeys, weight, zone, ground, foundation, age, 0]
+    let snow = random.pick(&SNOW);
+    [1, storeys, weight, zone, ground, foundation, age, snow]
 }
 
 fn storey_row(random: &mut Random, storey: u32, area: u32, short_side: u32) -> [u32; 8] {
@@ -149,9 +170,9 @@ fn ends_row(random: &mut Random, place: [u32; 2], ends: [u32; 2], storeys: u32) 
     [3, storey, direction, ends[0], ends[1], part_a, part_b, 0]
 }
 
-/// A few walls for an area, from none at all up to some that suffice for a heavy house on soft ground.
+/// A few walls for an area, from none at all up to some that suffice for a heavy house on soft ground, in deep snow too.
 fn usual_walls(random: &mut Random, place: [u32; 3], area: u32) -> Vec<u32> {
-    let most = random.pick(&[15, 40, 100, 400]);
+    let most = random.pick(&[15, 40, 100, 600]);
     let length = area * random.between(0, most) / 10;
     let count = length.div_ceil(20_000).max(random.between(1, 3));
     let mut walls = Vec::new();

@@ -3,7 +3,8 @@
 use std::process::Command;
 
 use girderbasil_host::library::raw;
-use girderbasil_host::random::{Random, damage};
+use girderbasil_host::random::{Random, damage, house};
+use girderbasil_host::{MOST_ROWS, ROW, model};
 
 use crate::common::calls::{Diagnose, Read, Score, WriteReport};
 use crate::common::header;
@@ -28,6 +29,8 @@ struct Met {
     number: u32,
     /// How much of what was lent comes after what is written there; nothing where nothing is written.
     left: Option<usize>,
+    /// The snow of the house; nothing where it is refused.
+    snow: Option<usize>,
 }
 
 /// What crosses in a buffer.
@@ -118,6 +121,7 @@ impl Call {
             function: "girderbasil_read",
             number: answer.number,
             left: written.map(|written| call.table.slice().len() - written.len()),
+            snow: written.map(|written| house::snow_of(written)),
         };
         let bytes = answer_bytes(answer);
         Self::filling(met, &call.sheet, &call.table, &call.table_after, bytes)
@@ -129,6 +133,10 @@ impl Call {
             function: "girderbasil_score",
             number: answer.number,
             left: None,
+            snow: call
+                .expected
+                .ok()
+                .map(|_| house::snow_of(call.table.slice())),
         };
         let mut bytes = vec![];
         put_all(&[answer.number, answer.row, answer.column], &mut bytes);
@@ -144,6 +152,7 @@ impl Call {
             function: "girderbasil_write_report",
             number: answer.number,
             left: written.map(|written| call.report.slice().len() - written.len()),
+            snow: written.map(|_| house::snow_of(call.table.slice())),
         };
         let bytes = answer_bytes(answer);
         Self::filling(met, &call.table, &call.report, &call.report_after, bytes)
@@ -151,10 +160,13 @@ impl Call {
 
     fn diagnose(call: &Diagnose) -> Self {
         let answer = call.answer();
+        let table = model::read(call.sheet.slice(), MOST_ROWS * ROW);
+        let scored = call.expected.and(table);
         let met = Met {
             function: "girderbasil_diagnose",
             number: answer.number,
             left: None,
+            snow: scored.ok().map(|table| house::snow_of(&table)),
         };
         let mut bytes = vec![];
         put_all(&[answer.number, answer.row, answer.column], &mut bytes);
@@ -185,8 +197,8 @@ const FUNCTIONS: [(&str, &[usize], bool); 4] = [
     ),
 ];
 
-/// Asserts that enough was met of everything: each function with each number, and with just enough lent and with more.
-/// With too little it is number 9.
+/// Asserts that enough was met of everything: each function with each number and each snow, and with just enough lent and
+/// with more. With too little it is number 9.
 fn assert_all_met(calls: &[Met]) {
     for (function, numbers, fills) in FUNCTIONS {
         let met = |wanted: &dyn Fn(&Met) -> bool| {
@@ -196,6 +208,10 @@ fn assert_all_met(calls: &[Met]) {
         for &number in numbers {
             let met = met(&|call| call.number as usize == number);
             assert!(met >= 50, "{function}, {number}: {met}");
+        }
+        for snow in 0..4 {
+            let met = met(&|call| call.snow == Some(snow));
+            assert!(met >= 200, "{function}, snow {snow}: {met}");
         }
         if fills {
             assert!(met(&|call| call.left == Some(0)) >= 1_000, "{function}");
