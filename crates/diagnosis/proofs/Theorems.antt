@@ -23,8 +23,8 @@ use Rattle.diagnosis.specs.House.{InHouse, higherBand, scoreBefore, full
 use Rattle.diagnosis.specs.Answers.{toldScoring, recordOf, scoring}
 use Rattle.diagnosis.specs.Report.{reportRows, reportLines, reportBytes, reporting}
 use Rattle.diagnosis.specs.Program.{tableOf, diagnosing, afterDiagnosing, mostReportBytes, output}
-use Rattle.diagnosis.specs.Comparison.{mayDiffer, NoLower, SameOrWorse, BandKept, scoreAt, NoBetter, Applies}
-use Rattle.diagnosis.specs.Worked.{p1Report, p10, sound, heavy, zone100, softGround, overTen, moreMarks, allWorse, figures, sameBands}
+use Rattle.diagnosis.specs.Comparison.{mayDiffer, NoLower, SameOrWorse, DeeperSnow, BandKept, scoreAt, NoBetter, Applies}
+use Rattle.diagnosis.specs.Worked.{p1Report, p10, sound, heavy, zone100, softGround, overTen, moreMarks, allWorse, snowySound, snowyWorse, weakJoints, figures, sameBands}
 use Rattle.diagnosis.proofs.ScoreLists as score-lists
 use Rattle.diagnosis.proofs.ReportNumbers as report-numbers
 use Rattle.diagnosis.proofs.Reporting as program
@@ -127,6 +127,32 @@ worsened-records = examples.worsened-records
 
 pub worsened-verdict : houseVerdict sound ≤ houseVerdict allWorse
 worsened-verdict = pairs.worsened-verdict
+
+-- A pair under 1 m of snow to which all of it applies, worse in all five. Its scores fall, too, and the better ends keep their bands.
+pub snowy-worsened : Applies snowySound snowyWorse
+snowy-worsened = pairs.snowy-worsened
+
+pub snowy-figures :
+    (figures snowySound ≡ (78 ∷ 152 ∷ 205 ∷ 146 ∷ []) ∷ (143 ∷ 152 ∷ 205 ∷ 146 ∷ []) ∷ sameBands ∷ [])
+    × (figures snowyWorse ≡ (30 ∷ 59 ∷ 77 ∷ 55 ∷ []) ∷ (56 ∷ 59 ∷ 77 ∷ 55 ∷ []) ∷ sameBands ∷ [])
+snowy-figures = examples.snowy-figures
+
+-- The snow has to be the same: a house and the same under 1 m of snow. Its scores rise from 60 to 62 on the ground, where its better ends stay in
+-- band C, and from 47 to 75 above, where they rise from B to D.
+pub weak-joints-snow : DeeperSnow (weakJoints 0) (weakJoints 1)
+weak-joints-snow = pairs.weak-joints-snow
+
+pub weak-joints-figures :
+    (figures (weakJoints 0) ≡ (60 ∷ 60 ∷ 47 ∷ 47 ∷ []) ∷ (60 ∷ 60 ∷ 47 ∷ 47 ∷ []) ∷ (2 ∷ 2 ∷ 1 ∷ 1 ∷ []) ∷ [])
+    × (figures (weakJoints 1) ≡ (62 ∷ 62 ∷ 75 ∷ 75 ∷ []) ∷ (62 ∷ 62 ∷ 75 ∷ 75 ∷ []) ∷ (2 ∷ 2 ∷ 3 ∷ 3 ∷ []) ∷ [])
+weak-joints-figures = examples.weak-joints-figures
+
+-- So under deeper snow neither the score before the layout factor nor, with the better end in its band, the full score is always at most what it was.
+pub same-snow-needed :
+    (((A B : List ℕ) → DeeperSnow A B → (storey direction : ℕ) → InHouse A storey direction → scoreBefore B storey direction ≤ scoreBefore A storey direction) → ⊥)
+    × (((A B : List ℕ) → DeeperSnow A B → (storey direction : ℕ) → InHouse A storey direction → BandKept A B storey direction
+    → fullScore B storey direction ≤ fullScore A storey direction) → ⊥)
+same-snow-needed = pairs.same-snow-needed
 
 -- Without the premise on bands it is false: P10's house in zone 100 is the one in zone 90 made worse, and its score rises from 11 to 14.
 pub p10-worse : SameOrWorse (p10 90) (p10 100)

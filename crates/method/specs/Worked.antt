@@ -139,6 +139,22 @@ worked =
     ∷ cappedScore (strengths 120_000_000_000 60_000_000_000_000) 100 (fraction 1 1)  -- computed with 60,000 kN held
     ∷ score (strengths 60_000_000_000 120_000_000_000_000) 100 (fraction 1 1)  -- 60,000 kN held, 120,000 kN required
     ∷ cappedScore (strengths 60_000_000_000 120_000_000_000_000) 100 (fraction 1 1)  -- computed with 60,000 kN required
+    ∷ jointFactor (snowyHouse 2 1 100 1 1 1) 2 (wall 1 4 31 1000)  -- P2's wall under 1 m of snow
+    ∷ jointFactor (snowyHouse 2 1 100 1 1 1) 1 (wall 1 4 31 1000)  -- and on the ground
+    ∷ jointFactor (snowyHouse 1 1 100 1 2 1) 1 (wall 1 2 30 1000)  -- one storey, foundation II, joint II, strength 3.0
+    ∷ jointFactor (snowyHouse 2 1 100 1 1 2) 2 (wall 1 3 50 1000)  -- 2 m: upper storey of two, joint III, strength 5.0
+    ∷ jointFactor (snowyHouse 2 1 100 1 2 2) 1 (wall 1 1 70 1000)  -- ground storey, foundation II, joint I, strength 7.0
+    ∷ jointFactor (snowyHouse 1 1 100 1 3 2) 1 (wall 1 4 50 1000)  -- one storey, foundation III, joint IV, strength 5.0
+    ∷ jointFactor (snowyHouse 2 1 100 1 1 3) 2 (wall 1 2 70 1000)  -- 2.5 m: upper storey of two, joint II, strength 7.0
+    ∷ jointFactor (snowyHouse 2 1 100 1 3 3) 1 (wall 1 2 70 1000)  -- ground storey, foundation III
+    ∷ jointFactor (snowyHouse 1 1 100 1 2 3) 1 (wall 1 2 70 1000)  -- one storey, foundation II
+    ∷ jointFactor (snowyHouse 1 1 100 1 1 3) 1 (wall 1 3 50 1000)  -- joints 3 and 4 share a row
+    ∷ jointFactor (snowyHouse 3 1 100 1 3 3) 2 (wall 1 1 70 1000)  -- the middle storey of three uses foundation 1
+    ∷ requiredStrength (snowyHouse 1 2 100 1 1 1) (housePart 1 1 4000) 100  -- P1 under 1 m, 2 m and 2.5 m
+    ∷ requiredStrength (snowyHouse 1 2 100 1 1 2) (housePart 1 1 4000) 100
+    ∷ requiredStrength (snowyHouse 1 2 100 1 1 3) (housePart 1 1 4000) 100
+    ∷ requiredStrength (snowyHouse 2 2 90 2 1 1) (housePart 1 2 4000) 113  -- narrow, in zone 90 on very soft ground: the sum is multiplied
+    ∷ requiredStrength (snowyHouse 2 2 100 1 1 2) (housePart 1 1 1000) 100  -- an end of one storey in a house of two
     ∷ []
 
 abbrev pub expected : List ℕ
@@ -232,6 +248,22 @@ expected =
     ∷ 100
     ∷ 50
     ∷ 100
+    ∷ 74  -- under snow: joint factors
+    ∷ 99
+    ∷ 80
+    ∷ 75
+    ∷ 95
+    ∷ 75
+    ∷ 85
+    ∷ 90
+    ∷ 75
+    ∷ 90
+    ∷ 100
+    ∷ 26_400_000_000  -- required strengths
+    ∷ 36_800_000_000
+    ∷ 42_000_000_000
+    ∷ 80_546_400_000
+    ∷ 9_200_000_000
     ∷ []
 
 -- The layout factors of every pair of a lower and a higher band (A is 0, E is 4), each by floor type 1/2/3, in the order of document 01's table,
