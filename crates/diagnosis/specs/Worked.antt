@@ -1,7 +1,7 @@
 -- The houses that the examples of this crate speak of: those of document 01, "Houses worked through", and pairs to which demand 3 applies.
 use mathlib.Core.List.{List, [], _∷_, _++_}
-use Prim.Native.Nat.{ℕ, _+_}
-use lib.ListN.{take, drop}
+use Prim.Native.Nat.{ℕ}
+use lib.ListN.{set}
 use Rattle.answer.specs.Text.{bytes}
 use Rattle.answer.specs.Houses.{twoStoreys}
 use Rattle.diagnosis.specs.Rows.{snowColumn}
@@ -54,9 +54,9 @@ moreMarks = twoStoreys 1 90 1 1 2056
 abbrev pub allWorse : List ℕ
 allWorse = twoStoreys 2 100 2 2 2056
 
--- A house under snow: its table with another number in column 8 of the house row.
+-- A house under snow, by the number that stands for its depth in column 8 of the house row.
 abbrev pub underSnow : ℕ → List ℕ → List ℕ
-underSnow depth table = take snowColumn table ++ (depth ∷ drop (snowColumn + 1) table)
+underSnow depth table = set table snowColumn depth
 
 -- The house of two storeys under 1 m of snow, and worse in all five.
 abbrev pub snowySound : List ℕ

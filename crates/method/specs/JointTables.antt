@@ -3,10 +3,10 @@
 use mathlib.Core.List.{List, [], _∷_}
 use Prim.Native.Nat.{ℕ}
 
--- Outside snow areas: document 01's "000's table of reductions for column joints outside snow areas (its "reference 2")", whose tables 1 to 3 are also
--- 000's table 4.3, ① to ③, there for three storeys too.
+-- No snow: 000's table 4.3. It is document 01's "table of reductions for column joints outside snow areas (its "reference 2")", where 000 prints it
+-- once more, for houses of one and two storeys.
 
--- ① the top storey of two or three.
+-- ① The top storey of two or three.
 abbrev pub topStoreyNoSnow : List (List ℕ)
 topStoreyNoSnow =
     (100 ∷ 100 ∷ 100 ∷ 100 ∷ [])  -- joint I
@@ -15,7 +15,7 @@ topStoreyNoSnow =
     ∷ (70 ∷ 35 ∷ 25 ∷ 20 ∷ [])  -- joint IV
     ∷ []
 
--- ② the other storeys of two or three.
+-- ② The other storeys of two or three.
 abbrev pub otherStoreyNoSnow : List (List (List ℕ))
 otherStoreyNoSnow =
     ((100 ∷ 100 ∷ 100 ∷ []) ∷ (100 ∷ 90 ∷ 80 ∷ []) ∷ (100 ∷ 85 ∷ 70 ∷ []) ∷ (100 ∷ 80 ∷ 60 ∷ []) ∷ [])  -- joint I
@@ -24,7 +24,7 @@ otherStoreyNoSnow =
     ∷ ((100 ∷ 100 ∷ 100 ∷ []) ∷ (80 ∷ 80 ∷ 80 ∷ []) ∷ (70 ∷ 70 ∷ 70 ∷ []) ∷ (60 ∷ 60 ∷ 60 ∷ []) ∷ [])  -- joint IV
     ∷ []
 
--- ③ one storey.
+-- ③ One storey.
 abbrev pub oneStoreyNoSnow : List (List (List ℕ))
 oneStoreyNoSnow =
     ((100 ∷ 85 ∷ 70 ∷ []) ∷ (100 ∷ 85 ∷ 70 ∷ []) ∷ (100 ∷ 80 ∷ 70 ∷ []) ∷ (100 ∷ 80 ∷ 70 ∷ []) ∷ [])  -- joint I
@@ -32,9 +32,9 @@ oneStoreyNoSnow =
     ∷ ((70 ∷ 70 ∷ 70 ∷ []) ∷ (60 ∷ 60 ∷ 60 ∷ []) ∷ (50 ∷ 50 ∷ 50 ∷ []) ∷ (30 ∷ 30 ∷ 30 ∷ []) ∷ [])  -- joints III and IV
     ∷ []
 
--- 000's table 4.4, for snow. 1 m: "where snow is cleared off".
+-- Snow of 1 m, where it is cleared off: 000's table 4.4.
 
--- ① the top storey of two or three.
+-- ① The top storey of two or three.
 abbrev pub topStorey1m : List (List ℕ)
 topStorey1m =
     (100 ∷ 100 ∷ 100 ∷ 100 ∷ [])  -- joint I
@@ -43,7 +43,7 @@ topStorey1m =
     ∷ (100 ∷ 75 ∷ 60 ∷ 50 ∷ [])  -- joint IV
     ∷ []
 
--- ② the other storeys of two or three.
+-- ② The other storeys of two or three.
 abbrev pub otherStorey1m : List (List (List ℕ))
 otherStorey1m =
     ((100 ∷ 100 ∷ 100 ∷ []) ∷ (100 ∷ 100 ∷ 100 ∷ []) ∷ (100 ∷ 90 ∷ 85 ∷ []) ∷ (100 ∷ 85 ∷ 75 ∷ []) ∷ [])  -- joint I
@@ -52,7 +52,7 @@ otherStorey1m =
     ∷ ((100 ∷ 100 ∷ 100 ∷ []) ∷ (100 ∷ 100 ∷ 100 ∷ []) ∷ (85 ∷ 85 ∷ 85 ∷ []) ∷ (75 ∷ 75 ∷ 75 ∷ []) ∷ [])  -- joint IV
     ∷ []
 
--- ③ one storey.
+-- ③ One storey.
 abbrev pub oneStorey1m : List (List (List ℕ))
 oneStorey1m =
     ((100 ∷ 100 ∷ 100 ∷ []) ∷ (100 ∷ 85 ∷ 75 ∷ []) ∷ (100 ∷ 80 ∷ 70 ∷ []) ∷ (100 ∷ 80 ∷ 70 ∷ []) ∷ [])  -- joint I
@@ -60,9 +60,9 @@ oneStorey1m =
     ∷ ((100 ∷ 100 ∷ 100 ∷ []) ∷ (75 ∷ 75 ∷ 75 ∷ []) ∷ (65 ∷ 65 ∷ 65 ∷ []) ∷ (35 ∷ 35 ∷ 35 ∷ []) ∷ [])  -- joints III and IV
     ∷ []
 
--- 2 m: "where it is not".
+-- Snow of 2 m, where it is not cleared off: 000's table 4.4.
 
--- ① the top storey of two or three.
+-- ① The top storey of two or three.
 abbrev pub topStorey2m : List (List ℕ)
 topStorey2m =
     (100 ∷ 100 ∷ 100 ∷ 100 ∷ [])  -- joint I
@@ -71,7 +71,7 @@ topStorey2m =
     ∷ (100 ∷ 85 ∷ 75 ∷ 70 ∷ [])  -- joint IV
     ∷ []
 
--- ② the other storeys of two or three.
+-- ② The other storeys of two or three.
 abbrev pub otherStorey2m : List (List (List ℕ))
 otherStorey2m =
     ((100 ∷ 100 ∷ 100 ∷ []) ∷ (100 ∷ 100 ∷ 100 ∷ []) ∷ (100 ∷ 95 ∷ 95 ∷ []) ∷ (100 ∷ 95 ∷ 90 ∷ []) ∷ [])  -- joint I
@@ -80,7 +80,7 @@ otherStorey2m =
     ∷ ((100 ∷ 100 ∷ 100 ∷ []) ∷ (100 ∷ 100 ∷ 100 ∷ []) ∷ (95 ∷ 95 ∷ 95 ∷ []) ∷ (90 ∷ 90 ∷ 90 ∷ []) ∷ [])  -- joint IV
     ∷ []
 
--- ③ one storey.
+-- ③ One storey.
 abbrev pub oneStorey2m : List (List (List ℕ))
 oneStorey2m =
     ((100 ∷ 100 ∷ 100 ∷ []) ∷ (100 ∷ 90 ∷ 85 ∷ []) ∷ (100 ∷ 85 ∷ 75 ∷ []) ∷ (100 ∷ 85 ∷ 75 ∷ []) ∷ [])  -- joint I
@@ -88,9 +88,9 @@ oneStorey2m =
     ∷ ((100 ∷ 100 ∷ 100 ∷ []) ∷ (85 ∷ 85 ∷ 85 ∷ []) ∷ (80 ∷ 80 ∷ 75 ∷ []) ∷ (50 ∷ 50 ∷ 50 ∷ []) ∷ [])  -- joints III and IV
     ∷ []
 
--- 2.5 m: "where it is not".
+-- Snow of 2.5 m, where it is not cleared off: 000's table 4.4. Its ② is that of 2 m once more.
 
--- ① the top storey of two or three.
+-- ① The top storey of two or three.
 abbrev pub topStorey2m50 : List (List ℕ)
 topStorey2m50 =
     (100 ∷ 100 ∷ 100 ∷ 100 ∷ [])  -- joint I
@@ -99,7 +99,7 @@ topStorey2m50 =
     ∷ (100 ∷ 90 ∷ 80 ∷ 75 ∷ [])  -- joint IV
     ∷ []
 
--- ② the other storeys of two or three.
+-- ② The other storeys of two or three.
 abbrev pub otherStorey2m50 : List (List (List ℕ))
 otherStorey2m50 =
     ((100 ∷ 100 ∷ 100 ∷ []) ∷ (100 ∷ 100 ∷ 100 ∷ []) ∷ (100 ∷ 95 ∷ 95 ∷ []) ∷ (100 ∷ 95 ∷ 90 ∷ []) ∷ [])  -- joint I
@@ -108,7 +108,7 @@ otherStorey2m50 =
     ∷ ((100 ∷ 100 ∷ 100 ∷ []) ∷ (100 ∷ 100 ∷ 100 ∷ []) ∷ (95 ∷ 95 ∷ 95 ∷ []) ∷ (90 ∷ 90 ∷ 90 ∷ []) ∷ [])  -- joint IV
     ∷ []
 
--- ③ one storey.
+-- ③ One storey.
 abbrev pub oneStorey2m50 : List (List (List ℕ))
 oneStorey2m50 =
     ((100 ∷ 100 ∷ 100 ∷ []) ∷ (100 ∷ 100 ∷ 100 ∷ []) ∷ (100 ∷ 95 ∷ 95 ∷ []) ∷ (100 ∷ 90 ∷ 80 ∷ []) ∷ [])  -- joint I

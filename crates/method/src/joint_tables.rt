@@ -1,9 +1,9 @@
 // The factors that 000 prints for the joints of a wall's columns, in hundredths: a line a joint; from the
 // left the strengths 2.0, 3.0, 5.0 and 7.0 kN/m, in ② and ③ each for foundations I, II and III.
 
-// Outside snow areas: 000's reference 2, tables 1 to 3 (as its table 4.3).
+// No snow: 000's table 4.3 (and its reference 2).
 
-// ① the top storey of two or three.
+// ① The top storey of two or three.
 const TOP_STOREY_NO_SNOW: [[u8; 4]; 4] = [
     [100, 100, 100, 100], // joint I
     [100, 80, 65, 50], // joint II
@@ -11,7 +11,7 @@ const TOP_STOREY_NO_SNOW: [[u8; 4]; 4] = [
     [70, 35, 25, 20], // joint IV
 ];
 
-// ② the other storeys of two or three.
+// ② The other storeys of two or three.
 const OTHER_STOREY_NO_SNOW: [[[u8; 3]; 4]; 4] = [
     [[100, 100, 100], [100, 90, 80], [100, 85, 70], [100, 80, 60]], // joint I
     [[100, 100, 100], [100, 90, 80], [90, 80, 70], [80, 70, 60]], // joint II
@@ -19,16 +19,16 @@ const OTHER_STOREY_NO_SNOW: [[[u8; 3]; 4]; 4] = [
     [[100, 100, 100], [80, 80, 80], [70, 70, 70], [60, 60, 60]], // joint IV
 ];
 
-// ③ one storey.
+// ③ One storey.
 const ONE_STOREY_NO_SNOW: [[[u8; 3]; 4]; 3] = [
     [[100, 85, 70], [100, 85, 70], [100, 80, 70], [100, 80, 70]], // joint I
     [[100, 85, 70], [90, 75, 70], [85, 70, 65], [80, 70, 60]], // joint II
     [[70, 70, 70], [60, 60, 60], [50, 50, 50], [30, 30, 30]], // joints III and IV
 ];
 
-// 000's table 4.4, for snow. 1 m, where it is cleared off.
+// Snow of 1 m, where it is cleared off: 000's table 4.4.
 
-// ① the top storey of two or three.
+// ① The top storey of two or three.
 const TOP_STOREY_1M: [[u8; 4]; 4] = [
     [100, 100, 100, 100], // joint I
     [100, 90, 85, 75], // joint II
@@ -36,7 +36,7 @@ const TOP_STOREY_1M: [[u8; 4]; 4] = [
     [100, 75, 60, 50], // joint IV
 ];
 
-// ② the other storeys of two or three.
+// ② The other storeys of two or three.
 const OTHER_STOREY_1M: [[[u8; 3]; 4]; 4] = [
     [
         [100, 100, 100],
@@ -49,16 +49,16 @@ const OTHER_STOREY_1M: [[[u8; 3]; 4]; 4] = [
     [[100, 100, 100], [100, 100, 100], [85, 85, 85], [75, 75, 75]], // joint IV
 ];
 
-// ③ one storey.
+// ③ One storey.
 const ONE_STOREY_1M: [[[u8; 3]; 4]; 3] = [
     [[100, 100, 100], [100, 85, 75], [100, 80, 70], [100, 80, 70]], // joint I
     [[100, 100, 100], [90, 80, 75], [85, 70, 65], [80, 70, 60]], // joint II
     [[100, 100, 100], [75, 75, 75], [65, 65, 65], [35, 35, 35]], // joints III and IV
 ];
 
-// 2 m, where it is not.
+// Snow of 2 m, where it is not cleared off: 000's table 4.4.
 
-// ① the top storey of two or three.
+// ① The top storey of two or three.
 const TOP_STOREY_2M: [[u8; 4]; 4] = [
     [100, 100, 100, 100], // joint I
     [100, 95, 85, 80], // joint II
@@ -66,7 +66,7 @@ const TOP_STOREY_2M: [[u8; 4]; 4] = [
     [100, 85, 75, 70], // joint IV
 ];
 
-// ② the other storeys of two or three.
+// ② The other storeys of two or three.
 const OTHER_STOREY_2M: [[[u8; 3]; 4]; 4] = [
     [
         [100, 100, 100],
@@ -84,16 +84,16 @@ const OTHER_STOREY_2M: [[[u8; 3]; 4]; 4] = [
     [[100, 100, 100], [100, 100, 100], [95, 95, 95], [90, 90, 90]], // joint IV
 ];
 
-// ③ one storey.
+// ③ One storey.
 const ONE_STOREY_2M: [[[u8; 3]; 4]; 3] = [
     [[100, 100, 100], [100, 90, 85], [100, 85, 75], [100, 85, 75]], // joint I
     [[100, 100, 100], [95, 90, 85], [85, 80, 75], [80, 75, 70]], // joint II
     [[100, 100, 100], [85, 85, 85], [80, 80, 75], [50, 50, 50]], // joints III and IV
 ];
 
-// 2.5 m, where it is not.
+// Snow of 2.5 m, where it is not cleared off: 000's table 4.4. Its ② is that of 2 m once more.
 
-// ① the top storey of two or three.
+// ① The top storey of two or three.
 const TOP_STOREY_2M50: [[u8; 4]; 4] = [
     [100, 100, 100, 100], // joint I
     [100, 95, 90, 85], // joint II
@@ -101,7 +101,7 @@ const TOP_STOREY_2M50: [[u8; 4]; 4] = [
     [100, 90, 80, 75], // joint IV
 ];
 
-// ② the other storeys of two or three.
+// ② The other storeys of two or three.
 const OTHER_STOREY_2M50: [[[u8; 3]; 4]; 4] = [
     [
         [100, 100, 100],
@@ -119,7 +119,7 @@ const OTHER_STOREY_2M50: [[[u8; 3]; 4]; 4] = [
     [[100, 100, 100], [100, 100, 100], [95, 95, 95], [90, 90, 90]], // joint IV
 ];
 
-// ③ one storey.
+// ③ One storey.
 const ONE_STOREY_2M50: [[[u8; 3]; 4]; 3] = [
     [
         [100, 100, 100],

@@ -28,8 +28,8 @@ unfolding judging rowsIn first rowFault houseFault storeyFault endsFault wallFau
 p1-judged = refl
 
 -- P1 with a number changed, or two: the refusals, with row and column.
-pub refusals-told : map judging (set p1 8 4 ∷ set p1 3 95 ∷ set p1 19 3001 ∷ set p1 81 8183 ∷ set (set p1 81 0) 82 0 ∷ [])
-    ≡ refusal 3 2 1 ∷ refusal 4 1 4 ∷ refusal 6 3 4 ∷ refusal 7 11 3 ∷ refusal 8 11 2 ∷ []
+pub refusals-told : map judging (set p1 8 4 ∷ set p1 3 95 ∷ set p1 7 4 ∷ set p1 19 3001 ∷ set p1 81 8183 ∷ set (set p1 81 0) 82 0 ∷ [])
+    ≡ refusal 3 2 1 ∷ refusal 4 1 4 ∷ refusal 4 1 8 ∷ refusal 6 3 4 ∷ refusal 7 11 3 ∷ refusal 8 11 2 ∷ []
 unfolding p1-judged
 refusals-told = refl
 

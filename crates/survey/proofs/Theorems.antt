@@ -60,10 +60,10 @@ cells-read = examples.cells-read
 pub p1-judged : judging p1 ≡ counted 11
 p1-judged = examples.p1-judged
 
--- and refused with a number changed, or two: a storey's row of kind 4; zone 95; ends 0.01 m² larger than their storey; a mark on a part that
+-- and refused with a number changed, or two: a storey's row of kind 4; zone 95; snow 4; ends 0.01 m² larger than their storey; a mark on a part that
 -- is absent; no part present. (The 301st wall is run by the program `run_surveys`.)
-pub refusals-told : map judging (set p1 8 4 ∷ set p1 3 95 ∷ set p1 19 3001 ∷ set p1 81 8183 ∷ set (set p1 81 0) 82 0 ∷ [])
-    ≡ refusal 3 2 1 ∷ refusal 4 1 4 ∷ refusal 6 3 4 ∷ refusal 7 11 3 ∷ refusal 8 11 2 ∷ []
+pub refusals-told : map judging (set p1 8 4 ∷ set p1 3 95 ∷ set p1 7 4 ∷ set p1 19 3001 ∷ set p1 81 8183 ∷ set (set p1 81 0) 82 0 ∷ [])
+    ≡ refusal 3 2 1 ∷ refusal 4 1 4 ∷ refusal 4 1 8 ∷ refusal 6 3 4 ∷ refusal 7 11 3 ∷ refusal 8 11 2 ∷ []
 refusals-told = examples.refusals-told
 
 -- A house of two storeys is accepted with its fourteen rows, whatever the five numbers are that may differ in demand 3, each in its range.
