@@ -2,8 +2,8 @@
  *
  * Four functions. Three go from a sheet's bytes to its report's by steps: read, score, write report. The
  * fourth, diagnose, goes all the way at once, and for a refused sheet has the line that tells the refusal.
- * Each is proved to answer what the customer's paper (document 01) defines, for every input, and to leave
- * lent storage as it defines. None keeps anything between calls, allocates, or calls the system, so any
+ * Each is proved to answer what the customer's papers (documents 01 and 02) define, for every input, and to
+ * leave lent storage as they define. None keeps anything between calls, allocates, or calls the system, so any
  * threads may call them.
  *
  * What the caller has to see to, as with any C function: a pointer is aligned for its type and stands for as

@@ -1,7 +1,7 @@
 //! The Rust side of Girderbasil.
 //!
-//! [`library`] calls the proved library through its C boundary. [`model`] is document 01 written down a second
-//! time, in plain Rust that shares no code with it; the tests compare the two, and the benchmark times them.
+//! [`library`] calls the proved library through its C boundary. [`model`] is documents 01 and 02 written down a
+//! second time, in plain Rust that shares no code with it; the tests compare the two, and the benchmark times them.
 
 pub mod answers;
 pub mod library;

@@ -1,5 +1,5 @@
-//! Houses worked through in the papers: document 01's P1 and P10, and the manual's; P1 and another house in snow; and
-//! two sheets that are refused.
+//! Houses worked through in the papers: document 01's P1 and P10, and the manual's. Beside them P1 and another house
+//! under snow, and two sheets that are refused.
 
 use crate::{FIELD, LINE, ROW};
 
@@ -29,7 +29,7 @@ pub const REPORT: &str = concat!(
     "       7       4      47       0       0       0       0       0\n",
 );
 
-/// P1's table with snow in it.
+/// P1's table under snow.
 pub const fn in_snow(snow: u32) -> [u32; 88] {
     let mut table = TABLE;
     table[ROW - 1] = snow;
@@ -81,9 +81,9 @@ pub const fn better_end_falls(zone: u32) -> [u32; 80] {
     ]
 }
 
-/// A very heavy house whose scores 1 m of snow raises: joints IV tear less where the snow holds the columns down.
+/// A very heavy house whose scores 1 m of snow raises: the factors of its joints IV rise by more than what is required.
 #[rustfmt::skip]
-pub const fn held_down(snow: u32) -> [u32; 160] {
+pub const fn weak_joints(snow: u32) -> [u32; 160] {
     [
         1, 2, 3, 100, 1, 1, 2, snow,
         2, 1, 4000, 5000, 1, 0, 0, 0,
@@ -109,7 +109,7 @@ pub const fn held_down(snow: u32) -> [u32; 160] {
 }
 
 /// Its scores without snow and in 1 m, cleared.
-pub const HELD_DOWN_SCORES: [[u32; 6]; 2] = [[60, 60, 47, 47, 0, 0], [62, 62, 75, 75, 0, 0]];
+pub const WEAK_JOINTS_SCORES: [[u32; 6]; 2] = [[60, 60, 47, 47, 0, 0], [62, 62, 75, 75, 0, 0]];
 
 /// The house that the manual works through: two storeys, heavy, very soft ground, foundation II, joints IV. Its
 /// openings of more than 3 m stand as rows of at most 3 m. Its marks are worth 7 of 21 points.

@@ -263,8 +263,8 @@ fn worked_houses_in_snow() {
     let printed = library::diagnose(&sheet_of(&worked::in_snow(3)));
     assert_eq!(printed, worked::REPORT_IN_DEEP_SNOW.as_bytes());
     let scores =
-        [0, 1].map(|snow| library::score(&worked::held_down(snow)).map(|record| record.scores));
-    assert_eq!(scores, worked::HELD_DOWN_SCORES.map(Ok));
+        [0, 1].map(|snow| library::score(&worked::weak_joints(snow)).map(|record| record.scores));
+    assert_eq!(scores, worked::WEAK_JOINTS_SCORES.map(Ok));
 }
 
 #[test]

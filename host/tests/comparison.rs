@@ -144,9 +144,9 @@ fn a_score_rises_where_the_better_end_falls() {
 /// compared have the same snow.
 #[test]
 fn a_score_rises_with_snow() {
-    let [bare, snowed] = [0, 1].map(|snow| scored(&worked::held_down(snow)));
-    assert_eq!(bare.record.scores, worked::HELD_DOWN_SCORES[0]);
-    assert_eq!(snowed.record.scores, worked::HELD_DOWN_SCORES[1]);
+    let [bare, snowed] = [0, 1].map(|snow| scored(&worked::weak_joints(snow)));
+    assert_eq!(bare.record.scores, worked::WEAK_JOINTS_SCORES[0]);
+    assert_eq!(snowed.record.scores, worked::WEAK_JOINTS_SCORES[1]);
     assert_eq!(bare.before_layout, [60, 60, 47, 47]);
     assert_eq!(snowed.before_layout, [62, 62, 75, 75]);
     assert_eq!(bare.higher_bands[..2], snowed.higher_bands[..2]);

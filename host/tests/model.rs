@@ -185,14 +185,14 @@ fn p1_in_snow() {
 
 #[test]
 fn snow_raises_a_score() {
-    for (snow, scores) in (0..).zip(worked::HELD_DOWN_SCORES) {
-        let record = model::score(&worked::held_down(snow)).unwrap();
+    for (snow, scores) in (0..).zip(worked::WEAK_JOINTS_SCORES) {
+        let record = model::score(&worked::weak_joints(snow)).unwrap();
         assert_eq!(record.scores, scores);
     }
 }
 
-/// Without snow, in 1 m, in 2 m and in 2.5 m. Where two of the manual's tables have an entry in common, another row tells
-/// them apart; only part 2 is the same in 2 m and in 2.5 m.
+/// Without snow and under 1 m, 2 m and 2.5 m. Where two of the manual's tables have an entry in common, another row
+/// tells them apart; only part 2 is the same for 2 m and for 2.5 m.
 #[test]
 fn joint_factors_in_snow() {
     // Storeys, storey, foundation, joint and strength.

@@ -22,7 +22,7 @@ use Rattle.survey.specs.Walls.{rowsFrom, rowsWhere, isWallOf, storeyWalls}
 use Rattle.survey.proofs.Examples.{p1-judged, zones-known}
 use Rattle.survey.proofs.Examples as survey
 use Rattle.method.specs.Printed.{nth}
-use Rattle.method.specs.Held.{position, foundationUsed, sharedRow, entry, interpolated, rowFactor, jointFactor, solidShare, openingShare, wallShare, heldStrength}
+use Rattle.method.specs.Held.{position, foundationUsed, sharedRow, topEntry, entryIn, entry, interpolated, rowFactor, jointFactor, solidShare, openingShare, wallShare, heldStrength}
 use Rattle.method.specs.Required.{topLine, constant, snowAddition, perArea, groundFactor, narrowFactor, requiredStrength}
 use Rattle.method.specs.LayoutFactor.{reached, band, floorType, layoutFactor}
 use Rattle.method.specs.Deterioration.{points, countedMarks, factorOf, deteriorationFactor}
@@ -35,7 +35,7 @@ use Rattle.diagnosis.specs.Answers.{recordOf}
 use Rattle.diagnosis.specs.Comparison.{scoreAt}
 use Rattle.diagnosis.specs.Report.{resultRows, reportRows, reportBytes, reporting, refusalLine}
 use Rattle.diagnosis.specs.Program.{mostNumbers, tableOf, diagnosing, afterDiagnosing, mostReportBytes, output}
-use Rattle.diagnosis.specs.Worked.{p1Report, p10, sound, heavy, zone100, softGround, overTen, moreMarks, allWorse, snowySound, snowyWorse, weakJoints, figures, sameBands}
+use Rattle.diagnosis.specs.Worked.{p1Report, p10, sound, heavy, zone100, softGround, overTen, moreMarks, allWorse, underSnow, snowySound, snowyWorse, weakJoints, figures, sameBands}
 
 -- P1's sheet can be read, and is P1's table.
 p1-read : reading p1Sheet mostNumbers ≡ counted 11
@@ -65,7 +65,7 @@ p10-walls zone known = rw (p10-judged zone known)
 
 -- From the walls on all is computed. Laws below that name this one in their `unfolding` line unfold what it does.
 pub p1-scores : scores p1 ≡ 47 ∷ 83 ∷ []
-unfolding scores joined scoreWith scoreBefore layout higherBand endBand endRequired required requiredOf narrow deterioration storeyFloorType held endHeld solidAtEnd inDirection rowsFrom wallRows first nth position foundationUsed sharedRow entry interpolated rowFactor jointFactor solidShare openingShare wallShare heldStrength topLine constant snowAddition perArea groundFactor narrowFactor requiredStrength reached band floorType layoutFactor points countedMarks factorOf deteriorationFactor score
+unfolding scores joined scoreWith scoreBefore layout higherBand endBand endRequired required requiredOf narrow deterioration storeyFloorType held endHeld solidAtEnd inDirection rowsFrom wallRows first nth position foundationUsed sharedRow topEntry entryIn entry interpolated rowFactor jointFactor solidShare openingShare wallShare heldStrength topLine constant snowAddition perArea groundFactor narrowFactor requiredStrength reached band floorType layoutFactor points countedMarks factorOf deteriorationFactor score
 p1-scores = rw p1-walls
 
 p1-rows : reportRows p1 ≡
@@ -232,7 +232,7 @@ unfolding sound-figures
 all-worse-figures = by-walls 2 100 2 2 2056 (two-judged .6)
 
 -- Under 1 m of snow: the sound house and the one that is worse in all five; and the house with weak joints, without snow and under 1 m.
-pub snowy-judged : Judged snowySound × Judged snowyWorse × (judging (weakJoints 0) ≡ counted 20) × (judging (weakJoints 1) ≡ counted 20)
+pub snowy-judged : Judged snowySound × Judged snowyWorse × (judging weakJoints ≡ counted 20) × (judging (underSnow 1 weakJoints) ≡ counted 20)
 unfolding p10-judged
 snowy-judged = (refl, refl, refl, refl)
 
@@ -240,7 +240,7 @@ snowy-judged = (refl, refl, refl, refl)
 abbrev StoreysWalls : List ℕ → ℕ → Type 0
 StoreysWalls table each = (storeyWalls table 1 ≡ rowsFrom table 7 each) × (storeyWalls table 2 ≡ rowsFrom table (7 + each) each)
 
-snowy-walls : StoreysWalls snowySound 3 × StoreysWalls snowyWorse 3 × StoreysWalls (weakJoints 0) 6 × StoreysWalls (weakJoints 1) 6
+snowy-walls : StoreysWalls snowySound 3 × StoreysWalls snowyWorse 3 × StoreysWalls weakJoints 6 × StoreysWalls (underSnow 1 weakJoints) 6
 unfolding p1-walls
 snowy-walls = (
   (rw (snowy-judged .0), rw (snowy-judged .0)),
@@ -255,10 +255,10 @@ pub snowy-figures :
 unfolding p1-scores
 snowy-figures = (rw (snowy-walls .0 .0, snowy-walls .0 .1), rw (snowy-walls .1 .0, snowy-walls .1 .1))
 
--- What holds the columns down raises all four scores, on the ground with the better ends still in band C.
+-- All four scores rise, on the ground with the better ends still in band C.
 pub weak-joints-figures :
-    (figures (weakJoints 0) ≡ (60 ∷ 60 ∷ 47 ∷ 47 ∷ []) ∷ (60 ∷ 60 ∷ 47 ∷ 47 ∷ []) ∷ (2 ∷ 2 ∷ 1 ∷ 1 ∷ []) ∷ [])
-    × (figures (weakJoints 1) ≡ (62 ∷ 62 ∷ 75 ∷ 75 ∷ []) ∷ (62 ∷ 62 ∷ 75 ∷ 75 ∷ []) ∷ (2 ∷ 2 ∷ 3 ∷ 3 ∷ []) ∷ [])
+    (figures weakJoints ≡ (60 ∷ 60 ∷ 47 ∷ 47 ∷ []) ∷ (60 ∷ 60 ∷ 47 ∷ 47 ∷ []) ∷ (2 ∷ 2 ∷ 1 ∷ 1 ∷ []) ∷ [])
+    × (figures (underSnow 1 weakJoints) ≡ (62 ∷ 62 ∷ 75 ∷ 75 ∷ []) ∷ (62 ∷ 62 ∷ 75 ∷ 75 ∷ []) ∷ (2 ∷ 2 ∷ 3 ∷ 3 ∷ []) ∷ [])
 unfolding p1-scores
 weak-joints-figures = (rw (snowy-walls .2 .0, snowy-walls .2 .1), rw (snowy-walls .3 .0, snowy-walls .3 .1))
 

@@ -1,7 +1,7 @@
 -- Pairs of houses that demand 3 compares: P10's, whose score rises without the premise on bands, those to which all of the theorem applies, and
 -- one under snow of two depths, which it does not compare. By computation. Assumes nothing.
 use mathlib.Core.Path.{_≡_, refl, sym, ap, _∙_}
-use mathlib.Core.Bool.{Bool, true, false, _&&_, _||_}
+use mathlib.Core.Bool.{Bool, true, false, _||_}
 use mathlib.Core.List.{List, [], _∷_}
 use Prim.Native.Nat.{ℕ, _*_, _<_, _≤_}
 use native.Mathlib.Omega.{arith}
@@ -16,27 +16,25 @@ use Rattle.survey.specs.Judgement.{within, judging}
 use Rattle.survey.proofs.Examples.{zones-known}
 use Rattle.survey.proofs.Positions.{beyond}
 use Rattle.method.proofs.Tables.{everyBelow, at-every}
-use Rattle.diagnosis.specs.Rows.{snowColumn, marked, snow}
-use Rattle.diagnosis.specs.House.{InHouse, scoreBefore, fullScore, houseVerdict}
-use Rattle.diagnosis.specs.Comparison.{mayDiffer, NoLower, SameOrWorse, DeeperSnow, BandKept, Applies}
-use Rattle.diagnosis.specs.Worked.{p10, sound, heavy, zone100, softGround, overTen, moreMarks, allWorse, snowySound, snowyWorse, weakJoints, figures, sameBands}
+use Rattle.diagnosis.specs.Rows.{marked}
+use Rattle.diagnosis.specs.House.{InHouse, scoreBefore, fullScore}
+use Rattle.diagnosis.specs.Comparison.{mayDiffer, NoLower, SameOrWorse, BandKept, Applies}
+use Rattle.diagnosis.specs.Worked.{p10, sound, heavy, zone100, softGround, overTen, moreMarks, allWorse, underSnow, snowySound, snowyWorse, weakJoints, figures, sameBands}
 use Rattle.diagnosis.proofs.ScoreLists.{one-or-two, score-at}
-use Rattle.diagnosis.proofs.Comparing.{comparison}
 use Rattle.diagnosis.proofs.Examples.{p10-judged, p10-rises, two-judged, sound-figures, heavy-figures, zone-figures, soft-ground-figures, over-ten-figures, more-marks-figures, all-worse-figures, snowy-judged, snowy-figures, weak-joints-figures}
 
 -- Whether the first rows of two tables, so many, hold equal numbers wherever they may not differ.
-alike : (ℕ → ℕ → Bool) → List ℕ → List ℕ → ℕ → Bool
-alike differ A B rows = everyBelow rows (λ row. everyBelow 8 (λ column. differ row column || eqb (cell A row column) (cell B row column)))
+alike : List ℕ → List ℕ → ℕ → Bool
+alike A B rows = everyBelow rows (λ row. everyBelow 8 (λ column. mayDiffer A row column || eqb (cell A row column) (cell B row column)))
 
 -- Two accepted tables of so many rows that pass this test.
 module _
     (A B : List ℕ) (rows : ℕ) (A-judged : judging A ≡ counted rows) (B-judged : judging B ≡ counted rows)
-    (A-rows : length A ≡ 8 * rows) (B-rows : length B ≡ 8 * rows)
+    (A-rows : length A ≡ 8 * rows) (B-rows : length B ≡ 8 * rows) (passed : alike A B rows ≡ true)
   where
-    rows-same : (differ : ℕ → ℕ → Bool) → alike differ A B rows ≡ true
-        → (row column : ℕ) → column < 8 → differ row column ≡ false → cell A row column ≡ cell B row column
+    rows-same : (row column : ℕ) → column < 8 → mayDiffer A row column ≡ false → cell A row column ≡ cell B row column
     unfolding alike
-    rows-same differ passed row column inside other = go (decLt row rows)
+    rows-same row column inside other = go (decLt row rows)
       where
         go : Dec (row < rows) → cell A row column ≡ cell B row column
         go (yes before) =
@@ -44,24 +42,14 @@ module _
         go (no after) = rw (beyond A row column (omega arith), beyond B row column (omega arith))
 
     -- One is the other made worse, where none of its numbers that differ is lower and it has every mark of the other.
-    made-worse : alike (mayDiffer A) A B rows ≡ true → NoLower A B → within (marked A) (marked B) ≡ true → SameOrWorse A B
-    made-worse passed no-lower marks = record {
+    made-worse : NoLower A B → within (marked A) (marked B) ≡ true → SameOrWorse A B
+    made-worse no-lower marks = record {
       A-accepted = ap (λ (t : Told). t .number) A-judged;
       B-accepted = ap (λ (t : Told). t .number) B-judged;
       rows = A-rows ∙ sym B-rows;
-      same = rows-same (mayDiffer A) passed;
+      same = rows-same;
       no-lower = no-lower;
       marks = marks;
-    }
-
-    -- One is the other under deeper snow, where nothing else differs.
-    made-snowier : alike (λ row column. eqb row 0 && eqb column snowColumn) A B rows ≡ true → snow A ≤ snow B → DeeperSnow A B
-    made-snowier passed deeper = record {
-      A-accepted = ap (λ (t : Told). t .number) A-judged;
-      B-accepted = ap (λ (t : Told). t .number) B-judged;
-      rows = A-rows ∙ sym B-rows;
-      same = rows-same (λ row column. eqb row 0 && eqb column snowColumn) passed;
-      deeper = deeper;
     }
 
 -- Demand 3's pair without the premise on bands: made worse, a house scores more, 14 where it was 11, since its better end falls from B to A
@@ -82,16 +70,19 @@ bands-needed claim =
     let stands : InHouse (p10 90) 1 1 = record { some-storey = omega arith; last-storey = omega arith; some-direction = omega arith; last-direction = omega arith } in
     omega (arith, claim (p10 90) (p10 100) p10-worse 1 1 stands, p10-scores)
 
+-- The bands among a house's figures.
+abbrev bandsOf : List (List ℕ) → List ℕ
+bandsOf figures = getD figures 2 []
+
 -- A house of two storeys made worse, with the same bands of its better ends.
 module _
-    (A B : List ℕ) (worse : SameOrWorse A B) (two : storeys A ≡ 2) {bands : List ℕ}
-    (a : getD (figures A) 2 [] ≡ bands) (b : getD (figures B) 2 [] ≡ bands)
+    (A B : List ℕ) (worse : SameOrWorse A B) (two : storeys A ≡ 2) {bands : List ℕ} (a : bandsOf (figures A) ≡ bands) (b : bandsOf (figures B) ≡ bands)
   where
-    band-same : (i : ℕ) → getD (getD (figures B) 2 []) i 0 ≡ getD (getD (figures A) 2 []) i 0
+    band-same : (i : ℕ) → getD (bandsOf (figures B)) i 0 ≡ getD (bandsOf (figures A)) i 0
     band-same i = ap (λ (l : List ℕ). getD l i 0) (b ∙ sym a)
 
-    both-applies : Applies A B
-    both-applies = record {
+    bands-kept-applies : Applies A B
+    bands-kept-applies = record {
       worse = worse;
       kept = λ storey direction s.
           one-or-two
@@ -101,17 +92,14 @@ module _
           (omega (arith, s .last-storey, two));
     }
 
-abbrev bandsOf : List (List ℕ) → List ℕ
-bandsOf figures = getD figures 2 []
-
 -- The sound house made worse.
 module _
-    (B : List ℕ) (accepted : judging B ≡ counted 14) (long : length B ≡ 112) (passed : alike (mayDiffer sound) sound B 14 ≡ true) {scored before : List ℕ}
+    (B : List ℕ) (accepted : judging B ≡ counted 14) (long : length B ≡ 112) (passed : alike sound B 14 ≡ true) {scored before : List ℕ}
     (b : figures B ≡ scored ∷ before ∷ sameBands ∷ [])
   where
     applies : NoLower sound B → within (marked sound) (marked B) ≡ true → Applies sound B
     applies no-lower marks =
-        both-applies sound B (made-worse sound B 14 (two-judged .0) accepted refl long passed no-lower marks) refl (ap bandsOf sound-figures) (ap bandsOf b)
+        bands-kept-applies sound B (made-worse sound B 14 (two-judged .0) accepted refl long passed no-lower marks) refl (ap bandsOf sound-figures) (ap bandsOf b)
 
 -- Pairs to which all of demand 3 applies: one for each of the five, and one that is worse in all of them.
 pub worsened :
@@ -130,42 +118,39 @@ worsened = (
 pub snowy-worsened : Applies snowySound snowyWorse
 unfolding p10-worse
 snowy-worsened =
-    both-applies snowySound snowyWorse
+    bands-kept-applies snowySound snowyWorse
     (made-worse snowySound snowyWorse 14 (snowy-judged .0) (snowy-judged .1) refl refl refl
     (record { heavier = omega arith; higher = omega arith; softer = omega arith; older = omega arith }) refl)
     refl (ap bandsOf (snowy-figures .0)) (ap bandsOf (snowy-figures .1))
 
--- A house and the same under 1 m of snow: its scores rise, so with deeper snow in place of the same snow the comparison is false.
-pub weak-joints-snow : DeeperSnow (weakJoints 0) (weakJoints 1)
-unfolding p10-worse
-weak-joints-snow = made-snowier (weakJoints 0) (weakJoints 1) 20 (snowy-judged .2) (snowy-judged .3) refl refl refl (omega arith)
-
--- The first number of a line of their figures.
+-- The house with weak joints, without snow and under 1 m: the first number of a line of its figures.
 abbrev firstOf : ℕ → List (List ℕ) → ℕ
 firstOf line figures = getD (getD figures line []) 0 0
 
-weak-joints-scores : (fullScore (weakJoints 0) 1 1 ≡ 60) × (fullScore (weakJoints 1) 1 1 ≡ 62)
+weak-joints-scores : (fullScore weakJoints 1 1 ≡ 60) × (fullScore (underSnow 1 weakJoints) 1 1 ≡ 62)
 weak-joints-scores = (
-  sym (score-at (weakJoints 0) 0 (omega arith)) ∙ ap (firstOf 0) (weak-joints-figures .0),
-  sym (score-at (weakJoints 1) 0 (omega arith)) ∙ ap (firstOf 0) (weak-joints-figures .1),
+  sym (score-at weakJoints 0 (omega arith)) ∙ ap (firstOf 0) (weak-joints-figures .0),
+  sym (score-at (underSnow 1 weakJoints) 0 (omega arith)) ∙ ap (firstOf 0) (weak-joints-figures .1),
 )
 
-weak-joints-before : (scoreBefore (weakJoints 0) 1 1 ≡ 60) × (scoreBefore (weakJoints 1) 1 1 ≡ 62)
+weak-joints-before : (scoreBefore weakJoints 1 1 ≡ 60) × (scoreBefore (underSnow 1 weakJoints) 1 1 ≡ 62)
 weak-joints-before = (ap (firstOf 1) (weak-joints-figures .0), ap (firstOf 1) (weak-joints-figures .1))
 
-weak-joints-kept : BandKept (weakJoints 0) (weakJoints 1) 1 1
+weak-joints-kept : BandKept weakJoints (underSnow 1 weakJoints) 1 1
 weak-joints-kept = ap (firstOf 2) (weak-joints-figures .1) ∙ sym (ap (firstOf 2) (weak-joints-figures .0))
 
+-- So under deeper snow the comparison is false.
 pub same-snow-needed :
-    (((A B : List ℕ) → DeeperSnow A B → (storey direction : ℕ) → InHouse A storey direction → scoreBefore B storey direction ≤ scoreBefore A storey direction) → ⊥)
-    × (((A B : List ℕ) → DeeperSnow A B → (storey direction : ℕ) → InHouse A storey direction → BandKept A B storey direction
-    → fullScore B storey direction ≤ fullScore A storey direction) → ⊥)
+    (((table : List ℕ) (less more : ℕ) → less ≤ more → judging (underSnow less table) .number ≡ 0 → judging (underSnow more table) .number ≡ 0
+    → (storey direction : ℕ) → InHouse (underSnow less table) storey direction
+    → scoreBefore (underSnow more table) storey direction ≤ scoreBefore (underSnow less table) storey direction) → ⊥)
+    × (((table : List ℕ) (less more : ℕ) → less ≤ more → judging (underSnow less table) .number ≡ 0 → judging (underSnow more table) .number ≡ 0
+    → (storey direction : ℕ) → InHouse (underSnow less table) storey direction → BandKept (underSnow less table) (underSnow more table) storey direction
+    → fullScore (underSnow more table) storey direction ≤ fullScore (underSnow less table) storey direction) → ⊥)
 same-snow-needed =
-    let stands : InHouse (weakJoints 0) 1 1 = record { some-storey = omega arith; last-storey = omega arith; some-direction = omega arith; last-direction = omega arith } in (
-      (λ claim. omega (arith, claim (weakJoints 0) (weakJoints 1) weak-joints-snow 1 1 stands, weak-joints-before)),
-      (λ claim. omega (arith, claim (weakJoints 0) (weakJoints 1) weak-joints-snow 1 1 stands weak-joints-kept, weak-joints-scores)),
+    let stands : InHouse weakJoints 1 1 = record { some-storey = omega arith; last-storey = omega arith; some-direction = omega arith; last-direction = omega arith } in
+    let without : judging weakJoints .number ≡ 0 = ap (λ (t : Told). t .number) (snowy-judged .2) in
+    let under : judging (underSnow 1 weakJoints) .number ≡ 0 = ap (λ (t : Told). t .number) (snowy-judged .3) in (
+      (λ claim. omega (arith, claim weakJoints 0 1 (omega arith) without under 1 1 stands, weak-joints-before)),
+      (λ claim. omega (arith, claim weakJoints 0 1 (omega arith) without under 1 1 stands weak-joints-kept, weak-joints-scores)),
     )
-
--- So by the theorem the verdict of the worst of them is no better.
-pub worsened-verdict : houseVerdict sound ≤ houseVerdict allWorse
-worsened-verdict = comparison sound allWorse (worsened .5 .worse) .verdict (worsened .5 .kept)

@@ -10,7 +10,7 @@ use lib.Dec.{eqb}
 use Rattle.survey.specs.Table.{cell, partsRow}
 use Rattle.survey.specs.Judgement.{judging, within}
 use Rattle.diagnosis.specs.declared.scores.Scoring.{Scoring}
-use Rattle.diagnosis.specs.Rows.{weightColumn, zoneColumn, groundColumn, ageColumn, markedColumn, snowColumn, weight, zone, ground, age, marked, snow}
+use Rattle.diagnosis.specs.Rows.{weightColumn, zoneColumn, groundColumn, ageColumn, markedColumn, weight, zone, ground, age, marked}
 use Rattle.diagnosis.specs.House.{InHouse, higherBand, scoreBefore, fullScore, houseVerdict}
 use Rattle.diagnosis.specs.Answers.{toldScoring, scoring}
 
@@ -43,15 +43,6 @@ pub record SameOrWorse (A B : List ℕ) : Type 0 where
   pub no-lower : NoLower A B
   -- In B every mark of A is marked.
   pub marks : within (marked A) (marked B) ≡ true
-
--- What the equal numbers keep out: "Deeper snow can hold columns down and raise a joint factor, so two compared houses have the same snow" (document
--- 02, request 1). B is A under the same or deeper snow, and nothing else differs.
-pub record DeeperSnow (A B : List ℕ) : Type 0 where
-  pub A-accepted : judging A .number ≡ 0
-  pub B-accepted : judging B .number ≡ 0
-  pub rows : length A ≡ length B
-  pub same : (row column : ℕ) → column < 8 → eqb row 0 && eqb column snowColumn ≡ false → cell A row column ≡ cell B row column
-  pub deeper : snow A ≤ snow B
 
 -- "it stays in its band when the higher band is the same in both houses compared".
 abbrev pub BandKept : List ℕ → List ℕ → ℕ → ℕ → Type 0

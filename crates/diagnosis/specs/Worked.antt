@@ -65,11 +65,11 @@ snowySound = underSnow 1 sound
 abbrev pub snowyWorse : List ℕ
 snowyWorse = underSnow 1 allWorse
 
--- A house whose scores deeper snow raises: two storeys, very heavy, zone 100, ordinary ground, foundation I, no marks; each storey 40 m², its ends
--- 10 m²; in each storey and direction three walls of 3.1 kN/m and 4,550 mm with joint IV, one at each place.
-abbrev pub weakJoints : ℕ → List ℕ
-weakJoints depth =
-    1 ∷ 2 ∷ 3 ∷ 100 ∷ 1 ∷ 1 ∷ 2 ∷ depth
+-- A house whose scores deeper snow raises: two storeys, very heavy, zone 100, ordinary ground, foundation I, no snow, no marks; each storey 40 m², its
+-- ends 10 m²; in each storey and direction three walls of 3.1 kN/m and 4,550 mm with joint IV, one at each place.
+abbrev pub weakJoints : List ℕ
+weakJoints =
+    1 ∷ 2 ∷ 3 ∷ 100 ∷ 1 ∷ 1 ∷ 2 ∷ 0
     ∷ 2 ∷ 1 ∷ 4000 ∷ 5000 ∷ 1 ∷ 0 ∷ 0 ∷ 0
     ∷ 2 ∷ 2 ∷ 4000 ∷ 5000 ∷ 1 ∷ 0 ∷ 0 ∷ 0
     ∷ 3 ∷ 1 ∷ 1 ∷ 1000 ∷ 1000 ∷ 2 ∷ 2 ∷ 0

@@ -4,7 +4,7 @@ use mathlib.Core.Path.{_≡_, refl}
 use Prim.Native.Nat.{_*_, _≤_}
 use lib.Dec.{lit<, lit≤}
 use Rattle.method.specs.Printed.{nth}
-use Rattle.method.specs.Held.{position, foundationUsed, sharedRow, entry, interpolated, rowFactor, jointFactor, solidShare, openingShare, wallShare}
+use Rattle.method.specs.Held.{position, foundationUsed, sharedRow, topEntry, entryIn, entry, interpolated, rowFactor, jointFactor, solidShare, openingShare, wallShare}
 use Rattle.method.specs.Required.{topLine, constant, snowAddition, perArea, groundFactor, narrowFactor, requiredStrength}
 use Rattle.method.specs.LayoutFactor.{reached, band, floorType, layoutFactor}
 use Rattle.method.specs.Deterioration.{points, fraction, countedMarks, factorOf, deteriorationFactor}
@@ -16,7 +16,7 @@ use Rattle.method.proofs.Fractions.{deterioration-falls}
 use Rattle.method.proofs.Comparisons.{score-before-falls, full-score-falls, capped-score, verdict-rises}
 
 pub worked-out : worked ≡ expected
-unfolding position foundationUsed sharedRow entry interpolated rowFactor jointFactor solidShare openingShare wallShare nth topLine constant snowAddition perArea groundFactor narrowFactor requiredStrength reached band floorType layoutFactor points countedMarks factorOf deteriorationFactor score cappedScore verdict
+unfolding position foundationUsed sharedRow topEntry entryIn entry interpolated rowFactor jointFactor solidShare openingShare wallShare nth topLine constant snowAddition perArea groundFactor narrowFactor requiredStrength reached band floorType layoutFactor points countedMarks factorOf deteriorationFactor score cappedScore verdict
 worked-out = refl
 
 -- Document 01's own table, by lower and higher band, A as 0 to E as 4, is the one that 000 prints.

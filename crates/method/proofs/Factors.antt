@@ -7,12 +7,12 @@ use native.Mathlib.Nat.{le-of-suc-le-suc, le-trans, mul-le-mul-right, div-lt-iff
 use native.Mathlib.Omega.{arith}
 use lib.ListN.{length, getD, List·getD-eq-default}
 use lib.Dec.{eqb, ltb, lit≤}
-use borrow.Author.Tests.{leb-true, ltb-true, ltb-false, eqb-false, le-leb, eq-eqb, ne-eqb}
+use borrow.Author.Tests.{leb-true, ltb-true, ltb-false, eqb-false, le-leb, ne-eqb}
 use Rattle.method.specs.declared.rows.House.{House}
 use Rattle.method.specs.declared.rows.Wall.{Wall}
 use Rattle.method.specs.Printed.{nth}
 use Rattle.method.specs.JointTables.{topStorey, otherStorey, oneStorey}
-use Rattle.method.specs.Held.{position, foundationUsed, sharedRow, entry, interpolated, rowFactor, jointFactor}
+use Rattle.method.specs.Held.{position, foundationUsed, sharedRow, topEntry, entryIn, entry, interpolated, rowFactor, jointFactor}
 use Rattle.method.proofs.Branches.{cond-most, cond-least, cond-same, cond-every}
 use Rattle.method.proofs.Tables.{nth-is, nth-none, and-true, every, getD-every, nth-every, small, short}
 
@@ -28,15 +28,16 @@ everyEntry passes = everyTop passes && (everyIn otherStorey passes && everyIn on
 
 -- Then the entry that is taken passes, and so does the 0 where none is printed.
 module _ (passes : ℕ → Bool) (default : passes 0 ≡ true) (snow position foundation joint column : ℕ) where
-  without-foundations : everyTop passes ≡ true → passes (getD (nth (getD topStorey snow []) joint []) column 0) ≡ true
-  without-foundations h =
+  top-every : everyTop passes ≡ true → passes (topEntry snow joint column) ≡ true
+  unfolding topEntry
+  top-every h =
       let table = getD topStorey snow [] in
       getD-every passes default (nth table joint [])
       (nth-every (every passes) refl table (getD-every (every (every passes)) refl topStorey h snow) joint) column
 
-  by-foundation : (tables : List (List (List (List ℕ)))) → everyIn tables passes ≡ true → (line : ℕ)
-      → passes (nth (getD (nth (getD tables snow []) line []) column []) foundation 0) ≡ true
-  by-foundation tables h line =
+  in-every : (tables : List (List (List (List ℕ)))) → everyIn tables passes ≡ true → (line : ℕ) → passes (entryIn tables snow foundation line column) ≡ true
+  unfolding entryIn
+  in-every tables h line =
       let table = getD tables snow [] in
       let row = nth table line [] in
       nth-every passes default (getD row column [])
@@ -48,8 +49,8 @@ module _ (passes : ℕ → Bool) (default : passes 0 ≡ true) (snow position fo
   entry-every all =
       let apart = and-true (everyTop passes) (everyIn otherStorey passes && everyIn oneStorey passes) all in
       let others = and-true (everyIn otherStorey passes) (everyIn oneStorey passes) (apart .1) in
-      cond-every passes (eqb position 1) (without-foundations (apart .0))
-      (cond-every passes (eqb position 2) (by-foundation otherStorey (others .0) joint) (by-foundation oneStorey (others .1) (sharedRow joint)))
+      cond-every passes (eqb position 1) (top-every (apart .0))
+      (cond-every passes (eqb position 2) (in-every otherStorey (others .0) joint) (in-every oneStorey (others .1) (sharedRow joint)))
 
 -- No printed entry is above 100: one test over tables 4.3 and 4.4.
 all-small : everyEntry (small 100) ≡ true
@@ -67,7 +68,7 @@ pub shared-most : (joint : ℕ) → joint ≤ 4 → sharedRow joint ≤ 3
 unfolding sharedRow
 shared-most joint most = cond-most (eqb joint 4) (λ e. lit≤ tt) (λ e. omega (arith, most, eqb-false joint 4 e))
 
--- What the printed entry is, by the table that holds it.
+-- Where there is no printed entry.
 module _ (snow position foundation joint column : ℕ) where
   no-line : {A : Type 0} (tables : List (List (List A))) (most line : ℕ) → every (short most) tables ≡ true → (1 ≤ line → line ≤ most → ⊥)
       → nth (getD tables snow []) line [] ≡ []
@@ -76,7 +77,8 @@ module _ (snow position foundation joint column : ℕ) where
       nth-none (getD tables snow []) line [] (λ some last. none some (le-trans last lines))
 
   no-foundation : (tables : List (List (List (List ℕ)))) → every (every (every (short 3))) tables ≡ true → (line : ℕ)
-      → (1 ≤ foundation → foundation ≤ 3 → ⊥) → 0 ≡ nth (getD (nth (getD tables snow []) line []) column []) foundation 0
+      → (1 ≤ foundation → foundation ≤ 3 → ⊥) → 0 ≡ entryIn tables snow foundation line column
+  unfolding entryIn
   no-foundation tables h line none =
       let table = getD tables snow [] in
       let row = nth table line [] in
@@ -86,7 +88,7 @@ module _ (snow position foundation joint column : ℕ) where
       sym (nth-none cell foundation 0 (λ some most. none some (le-trans most three)))
 
   pub entry-no-snow : 4 ≤ snow → 0 ≡ entry snow position foundation joint column
-  unfolding entry nth
+  unfolding entry topEntry entryIn nth
   entry-no-snow beyond =
       rw (
         List·getD-eq-default topStorey [] beyond,
@@ -100,7 +102,7 @@ module _ (snow position foundation joint column : ℕ) where
       (cond-same (eqb position 1) refl (cond-same (eqb position 2) refl refl))
 
   pub entry-no-joint : (1 ≤ joint → joint ≤ 4 → ⊥) → 0 ≡ entry snow position foundation joint column
-  unfolding entry sharedRow nth
+  unfolding entry topEntry entryIn sharedRow nth
   entry-no-joint none =
       rw (
         no-line topStorey 4 joint refl none,
@@ -111,29 +113,21 @@ module _ (snow position foundation joint column : ℕ) where
       )
       (cond-same (eqb position 1) refl (cond-same (eqb position 2) refl refl))
 
-  pub entry-top : position ≡ 1 → 1 ≤ joint → getD (getD (getD topStorey snow []) (joint - 1) []) column 0 ≡ entry snow position foundation joint column
+  pub entry-no-foundation : (position ≡ 1 → ⊥) → (1 ≤ foundation → foundation ≤ 3 → ⊥) → 0 ≡ entry snow position foundation joint column
   unfolding entry
-  entry-top top some = rw (eq-eqb position 1 top, nth-is (getD topStorey snow []) joint [] some)
+  entry-no-foundation below none =
+      rw (ne-eqb position 1 below)
+      (cond-same (eqb position 2) (no-foundation otherStorey refl joint none) (no-foundation oneStorey refl (sharedRow joint) none))
 
-  module _ (below : position ≡ 1 → ⊥) where
-    pub entry-no-foundation : (1 ≤ foundation → foundation ≤ 3 → ⊥) → 0 ≡ entry snow position foundation joint column
-    unfolding entry
-    entry-no-foundation none =
-        rw (ne-eqb position 1 below)
-        (cond-same (eqb position 2) (no-foundation otherStorey refl joint none) (no-foundation oneStorey refl (sharedRow joint) none))
+-- What it is, by the list of tables that has it.
+pub top-entry-is : (snow joint column : ℕ) → 1 ≤ joint → getD (getD (getD topStorey snow []) (joint - 1) []) column 0 ≡ topEntry snow joint column
+unfolding topEntry
+top-entry-is snow joint column some = rw (nth-is (getD topStorey snow []) joint [] some)
 
-    module _ (known : 1 ≤ foundation) where
-      pub entry-other : position ≡ 2 → 1 ≤ joint
-          → getD (getD (getD (getD otherStorey snow []) (joint - 1) []) column []) (foundation - 1) 0 ≡ entry snow position foundation joint column
-      unfolding entry
-      entry-other other some =
-          rw (ne-eqb position 1 below, eq-eqb position 2 other, nth-is (getD otherStorey snow []) joint [] some) (sym (nth-is _ foundation 0 known))
-
-      pub entry-one : (position ≡ 2 → ⊥) → {line : ℕ} → line ≡ sharedRow joint → 1 ≤ line
-          → getD (getD (getD (getD oneStorey snow []) (line - 1) []) column []) (foundation - 1) 0 ≡ entry snow position foundation joint column
-      unfolding entry
-      entry-one one {line} shared some =
-          rw (ne-eqb position 1 below, ne-eqb position 2 one, ← shared, nth-is (getD oneStorey snow []) line [] some) (sym (nth-is _ foundation 0 known))
+pub entry-in-is : (tables : List (List (List (List ℕ)))) (snow foundation line column : ℕ) → 1 ≤ foundation → 1 ≤ line
+    → getD (getD (getD (getD tables snow []) (line - 1) []) column []) (foundation - 1) 0 ≡ entryIn tables snow foundation line column
+unfolding entryIn
+entry-in-is tables snow foundation line column known some = rw (nth-is (getD tables snow []) line [] some) (sym (nth-is _ foundation 0 known))
 
 -- Between entries of at most 100 the factor is at most 100.
 pub interpolated-most : (from to left right strength : ℕ) → left ≤ 100 → right ≤ 100 → from ≤ strength → strength < to

@@ -1,6 +1,6 @@
 -- What a wall counts towards the held strength. Document 01, "Held strength". "Unit: 0.000001 kN, whole numbers."
 use mathlib.Core.Bool.{Bool, cond, _&&_}
-use mathlib.Core.List.{[]}
+use mathlib.Core.List.{List, []}
 use Prim.Native.Nat.{ℕ, zero, suc, _+_, _-_, _*_, _/_, min}
 use lib.ListN.{getD}
 use lib.Dec.{eqb, ltb}
@@ -22,13 +22,20 @@ foundationUsed house storey = cond (eqb (house .storeys) 3 && eqb storey 2) 1 (h
 unfoldable pub sharedRow : ℕ → ℕ
 sharedRow joint = cond (eqb joint 4) 3 joint
 
--- The printed entry of a snow 0 to 3, a position, a foundation 1 to 3 and a joint 1 to 4, in a column of strength, from 0. The top storey's table
--- has no foundations. Where there is no such table, or no such entry in it, it is 0.
+-- The printed entry of the top storey's table for a snow 0 to 3, by a joint 1 to 4 and a column of strength, from 0. Where there is no such table, or
+-- no such entry in it, it is 0.
+unfoldable pub topEntry : ℕ → ℕ → ℕ → ℕ
+topEntry snow joint column = getD (nth (getD topStorey snow []) joint []) column 0
+
+-- The same of the tables that go by foundation 1 to 3 too.
+unfoldable pub entryIn : List (List (List (List ℕ))) → ℕ → ℕ → ℕ → ℕ → ℕ
+entryIn tables snow foundation line column = nth (getD (nth (getD tables snow []) line []) column []) foundation 0
+
+-- The printed entry of a snow, a position, a foundation and a joint, in a column of strength.
 unfoldable pub entry : ℕ → ℕ → ℕ → ℕ → ℕ → ℕ
 entry snow position foundation joint column =
-    cond (eqb position 1) (getD (nth (getD topStorey snow []) joint []) column 0)
-    (cond (eqb position 2) (nth (getD (nth (getD otherStorey snow []) joint []) column []) foundation 0)
-    (nth (getD (nth (getD oneStorey snow []) (sharedRow joint) []) column []) foundation 0))
+    cond (eqb position 1) (topEntry snow joint column)
+    (cond (eqb position 2) (entryIn otherStorey snow foundation joint column) (entryIn oneStorey snow foundation (sharedRow joint) column))
 
 -- "Between, go straight from entry to entry and round to the nearest hundredth, half up": from one strength and its entry to the next.
 unfoldable pub interpolated : ℕ → ℕ → ℕ → ℕ → ℕ → ℕ

@@ -155,6 +155,8 @@ worked =
     ∷ requiredStrength (snowyHouse 1 2 100 1 1 3) (housePart 1 1 4000) 100
     ∷ requiredStrength (snowyHouse 2 2 90 2 1 1) (housePart 1 2 4000) 113  -- narrow, in zone 90 on very soft ground: the sum is multiplied
     ∷ requiredStrength (snowyHouse 2 2 100 1 1 2) (housePart 1 1 1000) 100  -- an end of one storey in a house of two
+    ∷ jointFactor (snowyHouse 1 2 100 1 1 4) 1 (wall 1 1 20 1000)  -- there is no snow 4: no entry, and no addition
+    ∷ requiredStrength (snowyHouse 1 2 100 1 1 4) (housePart 1 1 4000) 100
     ∷ []
 
 abbrev pub expected : List ℕ
@@ -264,6 +266,8 @@ expected =
     ∷ 42_000_000_000
     ∷ 80_546_400_000
     ∷ 9_200_000_000
+    ∷ 0  -- no such snow
+    ∷ 16_000_000_000
     ∷ []
 
 -- The layout factors of every pair of a lower and a higher band (A is 0, E is 4), each by floor type 1/2/3, in the order of document 01's table,

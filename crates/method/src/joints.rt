@@ -6,6 +6,9 @@ use crate::rows::House;
 use crate::rows::Wall;
 ghost use mathlib.Core.Path.{_≡_};
 ghost use Prim.Native.Nat.{_<_, _≤_};
+ghost use mathlib.Core.List.{[]};
+ghost use lib.ListN.{getD};
+ghost use Rattle.method.specs.JointTables.{topStorey, otherStorey, oneStorey};
 ghost use Rattle.method.specs.Held.{position, foundationUsed, sharedRow, entry, interpolated, rowFactor, jointFactor};
 
 // Which of the three printed tables a storey takes.
@@ -45,7 +48,31 @@ fn shared_row(joint: u32) -> u32
     joint
 }
 
-// A printed entry, in a column of strength from 0; 0 where there is no such table, or none in it.
+// An entry of each position's tables, by its place from 0: the snow, the line of the joint, the column of
+// strength and, below the top storey, the foundation. Each position has a function of its own, since the
+// check of one goes by how many tables it has.
+fn top_entry(snow: usize, line: usize, column: usize) -> u8
+    requires { ⌜ (snow < 4) × (line < 4) × (column < 4) ⌝ }
+    ensures { λ r. ⌜ r ≡ getD (getD (getD topStorey snow []) line []) column 0 ⌝ }
+{
+    TOP_STOREY[snow][line][column]
+}
+
+fn other_entry(snow: usize, line: usize, column: usize, at: usize) -> u8
+    requires { ⌜ (snow < 4) × (line < 4) × (column < 4) × (at < 3) ⌝ }
+    ensures { λ r. ⌜ r ≡ getD (getD (getD (getD otherStorey snow []) line []) column []) at 0 ⌝ }
+{
+    OTHER_STOREY[snow][line][column][at]
+}
+
+fn one_entry(snow: usize, line: usize, column: usize, at: usize) -> u8
+    requires { ⌜ (snow < 4) × (line < 3) × (column < 4) × (at < 3) ⌝ }
+    ensures { λ r. ⌜ r ≡ getD (getD (getD (getD oneStorey snow []) line []) column []) at 0 ⌝ }
+{
+    ONE_STOREY[snow][line][column][at]
+}
+
+// The printed entry, in a column of strength from 0; 0 where there is no such table, or none in it.
 fn entry(snow: u32, position: u32, foundation: u32, joint: u32, column: usize) -> u8
     requires { ⌜ column < 4 ⌝ }
     ensures { λ r. ⌜ r ≡ entry snow position foundation joint column ⌝ }
@@ -60,7 +87,7 @@ fn entry(snow: u32, position: u32, foundation: u32, joint: u32, column: usize) -
         return 0;
     }
     if position == 1 {
-        return TOP_STOREY[snow as usize][(joint - 1) as usize][column];
+        return top_entry(snow as usize, (joint - 1) as usize, column);
     }
     if foundation < 1 {
         return 0;
@@ -70,9 +97,9 @@ fn entry(snow: u32, position: u32, foundation: u32, joint: u32, column: usize) -
     }
     let at = (foundation - 1) as usize;
     if position == 2 {
-        return OTHER_STOREY[snow as usize][(joint - 1) as usize][column][at];
+        return other_entry(snow as usize, (joint - 1) as usize, column, at);
     }
-    ONE_STOREY[snow as usize][(shared_row(joint) - 1) as usize][column][at]
+    one_entry(snow as usize, (shared_row(joint) - 1) as usize, column, at)
 }
 
 // The straight line from one strength and its entry to the next, to the nearest hundredth, half up.

@@ -1,4 +1,5 @@
-// The columns of a table's rows, from 0, by the words of document 01, "The sheet and the table".
+// The columns of a table's rows, from 0, by the words of document 01, "The sheet and the table", and of
+// document 02, request 1 (snow).
 
 // In every row its kind; in every row but the house's and the parts' its storey.
 pub const KIND: usize = 0;

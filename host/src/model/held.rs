@@ -2,7 +2,7 @@
 
 use super::survey::{House, Survey, Wall, WallKind};
 
-/// The joint factors that are printed for one state of the snow, in hundredths.
+/// The joint factors that are printed for one depth of snow, in hundredths.
 struct JointFactors {
     /// Part 1, the top storey of two or three: a row for each joint, a column for each of [`STRENGTHS`].
     top_storey: [[u32; 4]; 4],

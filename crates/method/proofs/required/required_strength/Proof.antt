@@ -20,18 +20,18 @@ cast-result c = search needs
 cast-result-2 : tie.Need-cast-result-2
 cast-result-2 c = search needs
 
--- The constant with the addition is at most 272 and the ground factor at most 15, else the product would be beyond a u64.
-constant-most : (c : tie.After-ground-factor) → c .before .per-area .result ≤ 272
-constant-most c = rw (c .before .per-area .ensures) (per-area-most _ _)
+-- The sum of constant and addition is at most 272 and the ground factor at most 15, else the product would be beyond a u64.
+sum-most : (c : tie.After-ground-factor) → c .before .per-area .result ≤ 272
+sum-most c = rw (c .before .per-area .ensures) (per-area-most _ _)
 
 factor-most : (c : tie.After-ground-factor) → c .ground-factor .result ≤ 15
 factor-most c = rw (c .ground-factor .ensures) (ground-most _)
 
 mul-result : tie.Need-mul-result
-mul-result c = times-fits 272 4_294_967_295 (constant-most c) (omega arith) tt
+mul-result c = times-fits 272 4_294_967_295 (sum-most c) (omega arith) tt
 
 with-area : (c : tie.After-ground-factor) → c .before .per-area .result * c .before .before .args .part .area ≤ 272 * 4_294_967_295
-with-area c = times-most 272 4_294_967_295 (constant-most c) (omega arith)
+with-area c = times-most 272 4_294_967_295 (sum-most c) (omega arith)
 
 cast-result-3 : tie.Need-cast-result-3
 cast-result-3 c = search needs
