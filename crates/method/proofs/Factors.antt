@@ -1,18 +1,18 @@
 -- The joint factor: which printed entry it takes, and that it never exceeds 100. Assumes nothing.
-use mathlib.Core.Path.{_≡_, refl, sym}
+use mathlib.Core.Path.{_≡_, refl, sym, ap}
 use mathlib.Core.Bool.{Bool, true, false, _&&_}
-use mathlib.Core.List.{List, []}
+use mathlib.Core.List.{List, [], _∷_}
 use Prim.Native.Nat.{ℕ, _-_, _*_, _<_, _≤_, zero-le}
 use native.Mathlib.Nat.{le-of-suc-le-suc, le-trans, mul-le-mul-right, div-lt-iff-lt-mul}
 use native.Mathlib.Omega.{arith}
 use lib.ListN.{length, getD, List·getD-eq-default}
 use lib.Dec.{eqb, ltb, lit≤}
-use borrow.Author.Tests.{leb-true, ltb-true, ltb-false, eqb-false, le-leb, ne-eqb}
+use borrow.Author.Tests.{leb-true, ltb-true, ltb-false, eqb-false, le-leb, eq-eqb, ne-eqb}
 use Rattle.method.specs.declared.rows.House.{House}
 use Rattle.method.specs.declared.rows.Wall.{Wall}
 use Rattle.method.specs.Printed.{nth}
 use Rattle.method.specs.JointTables.{topStorey, otherStorey, oneStorey}
-use Rattle.method.specs.Held.{position, foundationUsed, sharedRow, topEntry, entryIn, entry, interpolated, rowFactor, jointFactor}
+use Rattle.method.specs.Held.{position, foundationUsed, sharedRow, topEntry, entryIn, entry, entries, interpolated, rowFactor, jointFactor}
 use Rattle.method.proofs.Branches.{cond-most, cond-least, cond-same, cond-every}
 use Rattle.method.proofs.Tables.{nth-is, nth-none, and-true, every, getD-every, nth-every, small, short}
 
@@ -68,8 +68,8 @@ pub shared-most : (joint : ℕ) → joint ≤ 4 → sharedRow joint ≤ 3
 unfolding sharedRow
 shared-most joint most = cond-most (eqb joint 4) (λ e. lit≤ tt) (λ e. omega (arith, most, eqb-false joint 4 e))
 
--- Where there is no printed entry.
-module _ (snow position foundation joint column : ℕ) where
+-- Where there is no printed entry, in any column.
+module _ (snow position foundation joint : ℕ) where
   no-line : {A : Type 0} (tables : List (List (List A))) (most line : ℕ) → every (short most) tables ≡ true → (1 ≤ line → line ≤ most → ⊥)
       → nth (getD tables snow []) line [] ≡ []
   no-line tables most line h none =
@@ -77,9 +77,9 @@ module _ (snow position foundation joint column : ℕ) where
       nth-none (getD tables snow []) line [] (λ some last. none some (le-trans last lines))
 
   no-foundation : (tables : List (List (List (List ℕ)))) → every (every (every (short 3))) tables ≡ true → (line : ℕ)
-      → (1 ≤ foundation → foundation ≤ 3 → ⊥) → 0 ≡ entryIn tables snow foundation line column
+      → (1 ≤ foundation → foundation ≤ 3 → ⊥) → (column : ℕ) → 0 ≡ entryIn tables snow foundation line column
   unfolding entryIn
-  no-foundation tables h line none =
+  no-foundation tables h line none column =
       let table = getD tables snow [] in
       let row = nth table line [] in
       let cell = getD row column [] in
@@ -87,9 +87,9 @@ module _ (snow position foundation joint column : ℕ) where
       let three : length cell ≤ 3 = leb-true _ 3 (getD-every (short 3) refl row short-row column) in
       sym (nth-none cell foundation 0 (λ some most. none some (le-trans most three)))
 
-  pub entry-no-snow : 4 ≤ snow → 0 ≡ entry snow position foundation joint column
+  pub entry-no-snow : 4 ≤ snow → (column : ℕ) → 0 ≡ entry snow position foundation joint column
   unfolding entry topEntry entryIn nth
-  entry-no-snow beyond =
+  entry-no-snow beyond column =
       rw (
         List·getD-eq-default topStorey [] beyond,
         List·getD-eq-default otherStorey [] beyond,
@@ -101,9 +101,9 @@ module _ (snow position foundation joint column : ℕ) where
       )
       (cond-same (eqb position 1) refl (cond-same (eqb position 2) refl refl))
 
-  pub entry-no-joint : (1 ≤ joint → joint ≤ 4 → ⊥) → 0 ≡ entry snow position foundation joint column
+  pub entry-no-joint : (1 ≤ joint → joint ≤ 4 → ⊥) → (column : ℕ) → 0 ≡ entry snow position foundation joint column
   unfolding entry topEntry entryIn sharedRow nth
-  entry-no-joint none =
+  entry-no-joint none column =
       rw (
         no-line topStorey 4 joint refl none,
         no-line otherStorey 4 joint refl none,
@@ -113,21 +113,51 @@ module _ (snow position foundation joint column : ℕ) where
       )
       (cond-same (eqb position 1) refl (cond-same (eqb position 2) refl refl))
 
-  pub entry-no-foundation : (position ≡ 1 → ⊥) → (1 ≤ foundation → foundation ≤ 3 → ⊥) → 0 ≡ entry snow position foundation joint column
+  pub entry-no-foundation : (position ≡ 1 → ⊥) → (1 ≤ foundation → foundation ≤ 3 → ⊥) → (column : ℕ) → 0 ≡ entry snow position foundation joint column
   unfolding entry
-  entry-no-foundation below none =
+  entry-no-foundation below none column =
       rw (ne-eqb position 1 below)
-      (cond-same (eqb position 2) (no-foundation otherStorey refl joint none) (no-foundation oneStorey refl (sharedRow joint) none))
+      (cond-same (eqb position 2) (no-foundation otherStorey refl joint none column) (no-foundation oneStorey refl (sharedRow joint) none column))
 
--- What it is, by the list of tables that has it.
-pub top-entry-is : (snow joint column : ℕ) → 1 ≤ joint → getD (getD (getD topStorey snow []) (joint - 1) []) column 0 ≡ topEntry snow joint column
-unfolding topEntry
-top-entry-is snow joint column some = rw (nth-is (getD topStorey snow []) joint [] some)
+-- Rows whose entries are the same.
+entries-same : (one other : ℕ → ℕ) → ((column : ℕ) → one column ≡ other column) → entries one ≡ entries other
+entries-same one other same = λ i. same 0 i ∷ same 1 i ∷ same 2 i ∷ same 3 i ∷ []
 
-pub entry-in-is : (tables : List (List (List (List ℕ)))) (snow foundation line column : ℕ) → 1 ≤ foundation → 1 ≤ line
-    → getD (getD (getD (getD tables snow []) (line - 1) []) column []) (foundation - 1) 0 ≡ entryIn tables snow foundation line column
-unfolding entryIn
-entry-in-is tables snow foundation line column known some = rw (nth-is (getD tables snow []) line [] some) (sym (nth-is _ foundation 0 known))
+-- What the entries of a row are, by the list of tables that has them; 0 where there are none.
+module _ (snow position foundation joint : ℕ) where
+  pub row-none : ((column : ℕ) → 0 ≡ entry snow position foundation joint column) → 0 ∷ 0 ∷ 0 ∷ 0 ∷ [] ≡ entries (entry snow position foundation joint)
+  row-none none = entries-same (λ column. 0) (entry snow position foundation joint) none
+
+  pub row-top : position ≡ 1 → 1 ≤ joint
+      → entries (λ column. getD (getD (getD topStorey snow []) (joint - 1) []) column 0) ≡ entries (entry snow position foundation joint)
+  unfolding entry topEntry
+  row-top top some = rw (eq-eqb position 1 top, nth-is (getD topStorey snow []) joint [] some)
+
+  row-in : (tables : List (List (List (List ℕ)))) {line : ℕ} → 1 ≤ foundation → 1 ≤ line
+      → entries (λ column. getD (getD (getD (getD tables snow []) (line - 1) []) column []) (foundation - 1) 0) ≡ entries (entryIn tables snow foundation line)
+  unfolding entryIn
+  row-in tables {line} known some =
+      let cell : ℕ → List ℕ = λ column. getD (getD (getD tables snow []) (line - 1) []) column [] in
+      rw (nth-is (getD tables snow []) line [] some)
+      (entries-same (λ column. getD (cell column) (foundation - 1) 0) (λ column. nth (cell column) foundation 0) (λ column. sym (nth-is (cell column) foundation 0 known)))
+
+  module _ (below : position ≡ 1 → ⊥) (known : 1 ≤ foundation) where
+    pub row-other : position ≡ 2 → 1 ≤ joint
+        → entries (λ column. getD (getD (getD (getD otherStorey snow []) (joint - 1) []) column []) (foundation - 1) 0)
+        ≡ entries (entry snow position foundation joint)
+    unfolding entry
+    row-other other some = rw (ne-eqb position 1 below, eq-eqb position 2 other) (row-in otherStorey known some)
+
+    pub row-one : (position ≡ 2 → ⊥) → {line : ℕ} → line ≡ sharedRow joint → 1 ≤ line
+        → entries (λ column. getD (getD (getD (getD oneStorey snow []) (line - 1) []) column []) (foundation - 1) 0)
+        ≡ entries (entry snow position foundation joint)
+    unfolding entry
+    row-one one {line} shared some = rw (ne-eqb position 1 below, ne-eqb position 2 one, ← shared) (row-in oneStorey known some)
+
+-- The factor by a row's four entries is that by the row.
+pub row-factor-by : (held : List ℕ) (row : ℕ → ℕ) (strength : ℕ) → held ≡ entries row → rowFactor (λ column. getD held column 0) strength ≡ rowFactor row strength
+unfolding rowFactor
+row-factor-by held row strength same = ap (λ (list : List ℕ). rowFactor (λ column. getD list column 0) strength) same
 
 -- Between entries of at most 100 the factor is at most 100.
 pub interpolated-most : (from to left right strength : ℕ) → left ≤ 100 → right ≤ 100 → from ≤ strength → strength < to

@@ -22,6 +22,10 @@ module _ {A : Type 0} (list : List A) where
   nth-none zero none h = refl
   nth-none (suc n) none h = List·getD-eq-default list none (omega (arith, h (omega arith)))
 
+-- One of several tables, by a number that it is known to have.
+pub table-of : {A : Type 0} (tables : List (List A)) (n m : ℕ) → m ≡ n → getD tables n [] ≡ getD tables m []
+table-of tables n m same = ap (λ (k : ℕ). getD tables k []) (sym same)
+
 -- Both of two tests.
 pub and-true : (a b : Bool) → a && b ≡ true → (a ≡ true) × (b ≡ true)
 and-true true b h = (refl, h)

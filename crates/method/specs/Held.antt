@@ -1,6 +1,6 @@
 -- What a wall counts towards the held strength. Document 01, "Held strength". "Unit: 0.000001 kN, whole numbers."
 use mathlib.Core.Bool.{Bool, cond, _&&_}
-use mathlib.Core.List.{List, []}
+use mathlib.Core.List.{List, [], _∷_}
 use Prim.Native.Nat.{ℕ, zero, suc, _+_, _-_, _*_, _/_, min}
 use lib.ListN.{getD}
 use lib.Dec.{eqb, ltb}
@@ -36,6 +36,10 @@ unfoldable pub entry : ℕ → ℕ → ℕ → ℕ → ℕ → ℕ
 entry snow position foundation joint column =
     cond (eqb position 1) (topEntry snow joint column)
     (cond (eqb position 2) (entryIn otherStorey snow foundation joint column) (entryIn oneStorey snow foundation (sharedRow joint) column))
+
+-- A row's entries at 2.0, 3.0, 5.0 and 7.0 kN/m, as the code holds them.
+abbrev pub entries : (ℕ → ℕ) → List ℕ
+entries row = row 0 ∷ row 1 ∷ row 2 ∷ row 3 ∷ []
 
 -- "Between, go straight from entry to entry and round to the nearest hundredth, half up": from one strength and its entry to the next.
 unfoldable pub interpolated : ℕ → ℕ → ℕ → ℕ → ℕ → ℕ

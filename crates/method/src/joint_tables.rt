@@ -1,5 +1,10 @@
 // The factors that 000 prints for the joints of a wall's columns, in hundredths: a line a joint; from the
 // left the strengths 2.0, 3.0, 5.0 and 7.0 kN/m, in ② and ③ each for foundations I, II and III.
+ghost use mathlib.Core.Path.{_≡_};
+ghost use mathlib.Core.List.{[]};
+ghost use Prim.Native.Nat.{_<_};
+ghost use lib.ListN.{getD};
+ghost use Rattle.method.specs.JointTables.{topStorey, otherStorey, oneStorey};
 
 // No snow: 000's table 4.3 (and its reference 2).
 
@@ -136,24 +141,39 @@ const ONE_STOREY_2M50: [[[u8; 3]; 4]; 3] = [
     [[100, 100, 100], [100, 100, 100], [90, 90, 90], [60, 60, 60]], // joints III and IV
 ];
 
-// The tables of a position by the house's snow: 0 none, 1 for 1 m cleared, 2 for 2 m, 3 for 2.5 m.
-pub(crate) const TOP_STOREY: [[[u8; 4]; 4]; 4] = [
-    TOP_STOREY_NO_SNOW,
-    TOP_STOREY_1M,
-    TOP_STOREY_2M,
-    TOP_STOREY_2M50,
-];
+// A position's table by the house's snow: 0 none, 1 for 1 m cleared, 2 for 2 m, 3 for 2.5 m.
+pub(crate) fn top_storey(snow: u32) -> [[u8; 4]; 4]
+    requires { ⌜ snow < 4 ⌝ }
+    ensures { λ r. ⌜ r ≡ getD topStorey snow [] ⌝ }
+{
+    match snow {
+        0 => TOP_STOREY_NO_SNOW,
+        1 => TOP_STOREY_1M,
+        2 => TOP_STOREY_2M,
+        _ => TOP_STOREY_2M50,
+    }
+}
 
-pub(crate) const OTHER_STOREY: [[[[u8; 3]; 4]; 4]; 4] = [
-    OTHER_STOREY_NO_SNOW,
-    OTHER_STOREY_1M,
-    OTHER_STOREY_2M,
-    OTHER_STOREY_2M50,
-];
+pub(crate) fn other_storey(snow: u32) -> [[[u8; 3]; 4]; 4]
+    requires { ⌜ snow < 4 ⌝ }
+    ensures { λ r. ⌜ r ≡ getD otherStorey snow [] ⌝ }
+{
+    match snow {
+        0 => OTHER_STOREY_NO_SNOW,
+        1 => OTHER_STOREY_1M,
+        2 => OTHER_STOREY_2M,
+        _ => OTHER_STOREY_2M50,
+    }
+}
 
-pub(crate) const ONE_STOREY: [[[[u8; 3]; 4]; 3]; 4] = [
-    ONE_STOREY_NO_SNOW,
-    ONE_STOREY_1M,
-    ONE_STOREY_2M,
-    ONE_STOREY_2M50,
-];
+pub(crate) fn one_storey(snow: u32) -> [[[u8; 3]; 4]; 3]
+    requires { ⌜ snow < 4 ⌝ }
+    ensures { λ r. ⌜ r ≡ getD oneStorey snow [] ⌝ }
+{
+    match snow {
+        0 => ONE_STOREY_NO_SNOW,
+        1 => ONE_STOREY_1M,
+        2 => ONE_STOREY_2M,
+        _ => ONE_STOREY_2M50,
+    }
+}

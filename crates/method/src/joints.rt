@@ -1,15 +1,14 @@
 // The joint factor (000's Kj): how far the joints at its columns lower a solid wall.
-use crate::joint_tables::ONE_STOREY;
-use crate::joint_tables::OTHER_STOREY;
-use crate::joint_tables::TOP_STOREY;
+use crate::joint_tables::one_storey;
+use crate::joint_tables::other_storey;
+use crate::joint_tables::top_storey;
 use crate::rows::House;
 use crate::rows::Wall;
 ghost use mathlib.Core.Path.{_≡_};
 ghost use Prim.Native.Nat.{_<_, _≤_};
 ghost use mathlib.Core.List.{[]};
 ghost use lib.ListN.{getD};
-ghost use Rattle.method.specs.JointTables.{topStorey, otherStorey, oneStorey};
-ghost use Rattle.method.specs.Held.{position, foundationUsed, sharedRow, entry, interpolated, rowFactor, jointFactor};
+ghost use Rattle.method.specs.Held.{position, foundationUsed, sharedRow, entry, entries, interpolated, rowFactor, jointFactor};
 
 // Which of the three printed tables a storey takes.
 fn position(house: House, storey: u32) -> u32
@@ -48,58 +47,46 @@ fn shared_row(joint: u32) -> u32
     joint
 }
 
-// An entry of each position's tables, by its place from 0: the snow, the line of the joint, the column of
-// strength and, below the top storey, the foundation. Each position has a function of its own, since the
-// check of one goes by how many tables it has.
-fn top_entry(snow: usize, line: usize, column: usize) -> u8
-    requires { ⌜ (snow < 4) × (line < 4) × (column < 4) ⌝ }
-    ensures { λ r. ⌜ r ≡ getD (getD (getD topStorey snow []) line []) column 0 ⌝ }
+// A row's entries: of the line of a joint the column of a foundation, counted from 0, at each strength.
+fn at_foundation(line: [[u8; 3]; 4], at: usize) -> [u8; 4]
+    requires { ⌜ at < 3 ⌝ }
+    ensures { λ r. ⌜ r ≡ entries (λ column. getD (getD line column []) at 0) ⌝ }
 {
-    TOP_STOREY[snow][line][column]
+    [line[0][at], line[1][at], line[2][at], line[3][at]]
 }
 
-fn other_entry(snow: usize, line: usize, column: usize, at: usize) -> u8
-    requires { ⌜ (snow < 4) × (line < 4) × (column < 4) × (at < 3) ⌝ }
-    ensures { λ r. ⌜ r ≡ getD (getD (getD (getD otherStorey snow []) line []) column []) at 0 ⌝ }
-{
-    OTHER_STOREY[snow][line][column][at]
-}
-
-fn one_entry(snow: usize, line: usize, column: usize, at: usize) -> u8
-    requires { ⌜ (snow < 4) × (line < 3) × (column < 4) × (at < 3) ⌝ }
-    ensures { λ r. ⌜ r ≡ getD (getD (getD (getD oneStorey snow []) line []) column []) at 0 ⌝ }
-{
-    ONE_STOREY[snow][line][column][at]
-}
-
-// The printed entry, in a column of strength from 0; 0 where there is no such table, or none in it.
-fn entry(snow: u32, position: u32, foundation: u32, joint: u32, column: usize) -> u8
-    requires { ⌜ column < 4 ⌝ }
-    ensures { λ r. ⌜ r ≡ entry snow position foundation joint column ⌝ }
+// The printed entries of a row at 2.0, 3.0, 5.0 and 7.0 kN/m; 0 where there is no such table, or no such
+// row in it.
+fn row(snow: u32, position: u32, foundation: u32, joint: u32) -> [u8; 4]
+    ensures { λ r. ⌜ r ≡ entries (entry snow position foundation joint) ⌝ }
 {
     if 3 < snow {
-        return 0;
+        return [0; 4];
     }
     if joint < 1 {
-        return 0;
+        return [0; 4];
     }
     if 4 < joint {
-        return 0;
+        return [0; 4];
     }
     if position == 1 {
-        return top_entry(snow as usize, (joint - 1) as usize, column);
+        let table = top_storey(snow);
+        let line = table[(joint - 1) as usize];
+        return [line[0], line[1], line[2], line[3]];
     }
     if foundation < 1 {
-        return 0;
+        return [0; 4];
     }
     if 3 < foundation {
-        return 0;
+        return [0; 4];
     }
     let at = (foundation - 1) as usize;
     if position == 2 {
-        return other_entry(snow as usize, (joint - 1) as usize, column, at);
+        let table = other_storey(snow);
+        return at_foundation(table[(joint - 1) as usize], at);
     }
-    one_entry(snow as usize, (shared_row(joint) - 1) as usize, column, at)
+    let table = one_storey(snow);
+    at_foundation(table[(shared_row(joint) - 1) as usize], at)
 }
 
 // The straight line from one strength and its entry to the next, to the nearest hundredth, half up.
@@ -115,27 +102,23 @@ fn interpolated(from: u32, to: u32, left: u8, right: u8, strength: u32) -> u32
     (2 * sum + width) / (2 * width)
 }
 
-// The factor of a strength by a row of the tables.
-fn row_factor(snow: u32, position: u32, foundation: u32, joint: u32, strength: u32) -> u32
-    ensures { λ r. ⌜ r ≡ rowFactor (entry snow position foundation joint) strength ⌝ }
+// The factor of a strength by the entries of a row.
+fn row_factor(row: [u8; 4], strength: u32) -> u32
+    ensures { λ r. ⌜ r ≡ rowFactor (λ column. getD row column 0) strength ⌝ }
 {
-    let first = entry(snow, position, foundation, joint, 0);
     if strength < 20 {
-        return first as u32;
+        return row[0] as u32;
     }
-    let second = entry(snow, position, foundation, joint, 1);
     if strength < 30 {
-        return interpolated(20, 30, first, second, strength);
+        return interpolated(20, 30, row[0], row[1], strength);
     }
-    let third = entry(snow, position, foundation, joint, 2);
     if strength < 50 {
-        return interpolated(30, 50, second, third, strength);
+        return interpolated(30, 50, row[1], row[2], strength);
     }
-    let fourth = entry(snow, position, foundation, joint, 3);
     if strength < 70 {
-        return interpolated(50, 70, third, fourth, strength);
+        return interpolated(50, 70, row[2], row[3], strength);
     }
-    fourth as u32
+    row[3] as u32
 }
 
 // The joint factor of a solid wall, in hundredths; 0 where its table has no such entry.
@@ -144,5 +127,6 @@ pub fn joint_factor(house: House, storey: u32, wall: Wall) -> u8
 {
     let position = position(house, storey);
     let used = foundation_used(house, storey);
-    row_factor(house.snow, position, used, wall.joint, wall.strength) as u8
+    let row = row(house.snow, position, used, wall.joint);
+    row_factor(row, wall.strength) as u8
 }

@@ -1,9 +1,10 @@
 -- `joint_factor` is what its definition says. Assumes nothing.
+use mathlib.Core.Path.{_≡_, _∙_}
 use Prim.Native.Nat.{_≤_}
 use native.Mathlib.Omega.{arith}
 use borrow.Author.Needs.{needs}
 use Rattle.method.specs.Held.{jointFactor}
-use Rattle.method.proofs.Factors.{row-factor-most}
+use Rattle.method.proofs.Factors.{row-factor-by, joint-most}
 use Rattle.method.proofs.joints.joint_factor.Statement.{statement}
 use Rattle.method.proofs.joints.joint_factor.Tie as tie
 
@@ -13,20 +14,39 @@ position-requires c κs = search needs
 foundation-used-requires : tie.Need-foundation-used-requires
 foundation-used-requires c κs = search needs
 
+row-requires : tie.Need-row-requires
+row-requires c κs = search needs
+
 row-factor-requires : tie.Need-row-factor-requires
 row-factor-requires c κs = search needs
 
-most : (c : tie.After-row-factor) → c .row-factor .result ≤ 100
-most c = rw (c .row-factor .ensures) (row-factor-most _ _ _ _ _)
+module _ (c : tie.After-row-factor) where
+  abbrev start : tie.Start
+  start = c .before .before .before .before
+
+  factor-is : c .row-factor .result ≡ jointFactor (start .args .house) (start .args .storey) (start .args .wall)
+  unfolding jointFactor
+  factor-is =
+      let at-row = c .before in
+      let at-used = at-row .before in
+      rw (← at-used .before .position .ensures, ← at-used .foundation-used .ensures) (c .row-factor .ensures ∙ row-factor-by _ _ _ (at-row .row .ensures))
+
+  factor-most : c .row-factor .result ≤ 100
+  factor-most = rw factor-is (joint-most _ _ _)
 
 cast-result : tie.Need-cast-result
-cast-result c = omega (arith, most c)
+cast-result c = omega (arith, factor-most c)
 
 returns : tie.Need-returns
-unfolding jointFactor
-returns c = rw (← c .before .before .position .ensures, ← c .before .foundation-used .ensures) (c .row-factor .ensures)
+returns c = factor-is c
 
 pub joint-factor-spec : {M : Type 1} → statement M
 joint-factor-spec =
     tie.close
-    (tie.spec position-requires foundation-used-requires row-factor-requires cast-result returns)
+    (tie.spec
+    position-requires
+    foundation-used-requires
+    row-requires
+    row-factor-requires
+    cast-result
+    returns)

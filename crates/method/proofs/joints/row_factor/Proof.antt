@@ -1,22 +1,26 @@
 -- `row_factor` is what its definition says. Assumes nothing.
+use mathlib.Core.Path.{refl}
 use borrow.Author.Tests.{lt-ltb, le-ltb}
 use borrow.Author.Needs.{needs}
-use Rattle.method.specs.Held.{entry, interpolated, rowFactor}
+use Rattle.method.specs.Held.{rowFactor}
 use Rattle.method.proofs.joints.row_factor.Statement.{statement}
 use Rattle.method.proofs.joints.row_factor.Tie as tie
 
-entry-requires : tie.Need-entry-requires
-entry-requires c κs = search needs
+array-read-result : tie.Need-array-read-result
+array-read-result c = search needs
 
 cast-result : tie.Need-cast-result
 cast-result c = search needs
 
 returns : tie.Need-returns
 unfolding rowFactor
-returns c = rw (lt-ltb _ 20 (c .if1 .taken)) (c .before .entry .ensures)
+returns c = rw (lt-ltb _ 20 (c .if1 .taken))
 
-entry-requires-2 : tie.Need-entry-requires-2
-entry-requires-2 c κs = search needs
+array-read-interpolated : tie.Need-array-read-interpolated
+array-read-interpolated c = search needs
+
+array-read-interpolated-2 : tie.Need-array-read-interpolated-2
+array-read-interpolated-2 c = search needs
 
 interpolated-requires : tie.Need-interpolated-requires
 interpolated-requires c κs = search needs
@@ -25,12 +29,13 @@ returns-2 : tie.Need-returns-2
 unfolding rowFactor
 returns-2 c =
     let at-if2 = c .before in
-    let at-if1 = at-if2 .before .before in
-    rw (le-ltb _ 20 (at-if1 .if1 .left), lt-ltb _ 30 (at-if2 .if2 .taken), ← at-if1 .before .entry .ensures, ← at-if2 .before .entry2 .ensures)
-    (c .interpolated .ensures)
+    rw (le-ltb _ 20 (at-if2 .before .if1 .left), lt-ltb _ 30 (at-if2 .if2 .taken)) (c .interpolated .ensures)
 
-entry-requires-3 : tie.Need-entry-requires-3
-entry-requires-3 c κs = search needs
+array-read-interpolated-3 : tie.Need-array-read-interpolated-3
+array-read-interpolated-3 c = search needs
+
+array-read-interpolated-4 : tie.Need-array-read-interpolated-4
+array-read-interpolated-4 c = search needs
 
 interpolated-requires-2 : tie.Need-interpolated-requires-2
 interpolated-requires-2 c κs = search needs
@@ -39,18 +44,14 @@ returns-3 : tie.Need-returns-3
 unfolding rowFactor
 returns-3 c =
     let at-if3 = c .before in
-    let at-if2 = at-if3 .before .before in
-    rw (
-      le-ltb _ 20 (at-if2 .before .before .if1 .left),
-      le-ltb _ 30 (at-if2 .if2 .left),
-      lt-ltb _ 50 (at-if3 .if3 .taken),
-      ← at-if2 .before .entry2 .ensures,
-      ← at-if3 .before .entry3 .ensures,
-    )
-    (c .interpolated2 .ensures)
+    let at-if2 = at-if3 .before in
+    rw (le-ltb _ 20 (at-if2 .before .if1 .left), le-ltb _ 30 (at-if2 .if2 .left), lt-ltb _ 50 (at-if3 .if3 .taken)) (c .interpolated2 .ensures)
 
-entry-requires-4 : tie.Need-entry-requires-4
-entry-requires-4 c κs = search needs
+array-read-interpolated-5 : tie.Need-array-read-interpolated-5
+array-read-interpolated-5 c = search needs
+
+array-read-interpolated-6 : tie.Need-array-read-interpolated-6
+array-read-interpolated-6 c = search needs
 
 interpolated-requires-3 : tie.Need-interpolated-requires-3
 interpolated-requires-3 c κs = search needs
@@ -59,17 +60,18 @@ returns-4 : tie.Need-returns-4
 unfolding rowFactor
 returns-4 c =
     let at-if4 = c .before in
-    let at-if3 = at-if4 .before .before in
-    let at-if2 = at-if3 .before .before in
+    let at-if3 = at-if4 .before in
+    let at-if2 = at-if3 .before in
     rw (
-      le-ltb _ 20 (at-if2 .before .before .if1 .left),
+      le-ltb _ 20 (at-if2 .before .if1 .left),
       le-ltb _ 30 (at-if2 .if2 .left),
       le-ltb _ 50 (at-if3 .if3 .left),
       lt-ltb _ 70 (at-if4 .if4 .taken),
-      ← at-if3 .before .entry3 .ensures,
-      ← at-if4 .before .entry4 .ensures,
     )
     (c .interpolated3 .ensures)
+
+array-read-result-2 : tie.Need-array-read-result-2
+array-read-result-2 c = search needs
 
 cast-result-2 : tie.Need-cast-result-2
 cast-result-2 c = search needs
@@ -77,26 +79,29 @@ cast-result-2 c = search needs
 returns-5 : tie.Need-returns-5
 unfolding rowFactor
 returns-5 c =
-    let at-if3 = c .before .before in
-    let at-if2 = at-if3 .before .before in
-    rw (le-ltb _ 20 (at-if2 .before .before .if1 .left), le-ltb _ 30 (at-if2 .if2 .left), le-ltb _ 50 (at-if3 .if3 .left), le-ltb _ 70 (c .if4 .left))
-    (c .before .entry4 .ensures)
+    let at-if3 = c .before in
+    let at-if2 = at-if3 .before in
+    rw (le-ltb _ 20 (at-if2 .before .if1 .left), le-ltb _ 30 (at-if2 .if2 .left), le-ltb _ 50 (at-if3 .if3 .left), le-ltb _ 70 (c .if4 .left))
 
 pub row-factor-spec : {M : Type 1} → statement M
 row-factor-spec =
     tie.close
     (tie.spec
-    entry-requires
+    array-read-result
     cast-result
     returns
-    entry-requires-2
+    array-read-interpolated
+    array-read-interpolated-2
     interpolated-requires
     returns-2
-    entry-requires-3
+    array-read-interpolated-3
+    array-read-interpolated-4
     interpolated-requires-2
     returns-3
-    entry-requires-4
+    array-read-interpolated-5
+    array-read-interpolated-6
     interpolated-requires-3
     returns-4
+    array-read-result-2
     cast-result-2
     returns-5)
