@@ -15,7 +15,7 @@ use Rattle.answer.specs.Lists.{joined, part, over}
 use Rattle.sheet.specs.Field.{digitAfter, after, field, isNumber, value, digitOrSpace, printed}
 use Rattle.sheet.specs.Line.{line}
 use Rattle.sheet.specs.Sheet.{fieldAt, misprinted, numbersOf, reading, linesOf}
-use Rattle.survey.specs.Table.{wallRows}
+use Rattle.survey.specs.Table.{storeys, wallRows}
 use Rattle.survey.specs.Ranges as ranges
 use Rattle.survey.specs.Judgement.{_then_, test, outside, leftmost, wrongColumn, houseFault, storeyFault, endsFault, storeyBefore, wallFault, within, partsFault, rowFault, judging}
 use Rattle.survey.specs.Walls.{rowsFrom, rowsWhere, isWallOf, storeyWalls}
@@ -31,6 +31,8 @@ use Rattle.method.specs.Worked.{worked, expected}
 use Rattle.method.proofs.Examples.{worked-out}
 use Rattle.diagnosis.specs.Rows.{endA, endB}
 use Rattle.diagnosis.specs.House.{inDirection, solidAtEnd, held, endHeld, narrow, requiredOf, required, endRequired, endBand, higherBand, storeyFloorType, layout, deterioration, strengthsWith, scoreBefore, scoreWith, fullScore, scores, leastOf, leastScore, houseVerdict}
+use Rattle.diagnosis.specs.declared.held.HeldSums.{HeldSums}
+use Rattle.diagnosis.specs.Internal.{heldSums}
 use Rattle.diagnosis.specs.Answers.{recordOf}
 use Rattle.diagnosis.specs.Comparison.{scoreAt}
 use Rattle.diagnosis.specs.Report.{resultRows, reportRows, reportBytes, reporting, refusalLine}
@@ -149,96 +151,103 @@ two-judged = (
   in-range 2 100 2 2 2056 (lit≤ tt) (lit≤ tt) (zones-known .3) (lit≤ tt) (lit≤ tt) (lit≤ tt) (lit≤ tt) (lit≤ tt),
 )
 
--- What its walls hold, whatever those numbers are.
-module _ (weight zone ground age marked : ℕ) (accepted : Judged (twoStoreys weight zone ground age marked)) where
-  abbrev house : List ℕ
-  house = twoStoreys weight zone ground age marked
-
-  walls : (storeyWalls house 1 ≡ rowsFrom house 7 3) × (storeyWalls house 2 ≡ rowsFrom house 10 3)
-  unfolding p1-walls
-  walls = (rw accepted, rw accepted)
-
-  holds : (held house 1 1 ≡ 56_250_000) × (held house 1 2 ≡ 60_000_000) × (held house 2 1 ≡ 35_000_000) × (held house 2 2 ≡ 25_000_000)
-  unfolding p1-scores
-  holds = (rw (walls .0), rw (walls .0), rw (walls .1), rw (walls .1))
-
-  ends-hold :
-      (endHeld house 1 1 endA ≡ 55_000_000) × (endHeld house 1 1 endB ≡ 1_250_000)
-      × (endHeld house 1 2 endA ≡ 0) × (endHeld house 1 2 endB ≡ 0)
-      × (endHeld house 2 1 endA ≡ 17_500_000) × (endHeld house 2 1 endB ≡ 17_500_000)
-      × (endHeld house 2 2 endA ≡ 0) × (endHeld house 2 2 endB ≡ 0)
-  unfolding p1-scores
-  ends-hold = (rw (walls .0), rw (walls .0), rw (walls .0), rw (walls .0), rw (walls .1), rw (walls .1), rw (walls .1), rw (walls .1))
-
+-- The figures of a house of two storeys, by what its walls hold in each place, in all and at the ends.
+module _ (house : List ℕ) (two-storeys : storeys house ≡ 2) where
   -- A place's band of an end, higher band, score and score before the layout factor, by what is held there.
   abbrev bandBy : ℕ → ℕ → ℕ → ℕ → ℕ
   bandBy storey direction end holding = band (record { held = holding; required = endRequired house storey direction end })
 
-  abbrev higherBy : ℕ → ℕ → ℕ → ℕ → ℕ
-  higherBy storey direction a b = max (bandBy storey direction endA a) (bandBy storey direction endB b)
+  abbrev higherBy : ℕ → ℕ → HeldSums → ℕ
+  higherBy storey direction sums = max (bandBy storey direction endA (sums .a)) (bandBy storey direction endB (sums .b))
 
-  abbrev fullBy : ℕ → ℕ → ℕ → ℕ → ℕ → ℕ
-  fullBy storey direction all a b =
-      score (strengthsWith house all storey)
-      (layoutFactor (record { a = bandBy storey direction endA a; b = bandBy storey direction endB b }) (storeyFloorType house storey)) (deterioration house)
+  abbrev fullBy : ℕ → ℕ → HeldSums → ℕ
+  fullBy storey direction sums =
+      score (strengthsWith house (sums .all) storey)
+      (layoutFactor (record { a = bandBy storey direction endA (sums .a); b = bandBy storey direction endB (sums .b) }) (storeyFloorType house storey))
+      (deterioration house)
 
-  abbrev beforeBy : ℕ → ℕ → ℕ
-  beforeBy storey all = scoreBeforeLayout (strengthsWith house all storey) (deterioration house)
+  abbrev beforeBy : ℕ → HeldSums → ℕ
+  beforeBy storey sums = scoreBeforeLayout (strengthsWith house (sums .all) storey) (deterioration house)
 
-  by-walls :
-      figures house
-      ≡ (fullBy 1 1 56_250_000 55_000_000 1_250_000 ∷ fullBy 1 2 60_000_000 0 0 ∷ fullBy 2 1 35_000_000 17_500_000 17_500_000 ∷ fullBy 2 2 25_000_000 0 0 ∷ [])
-      ∷ (beforeBy 1 56_250_000 ∷ beforeBy 1 60_000_000 ∷ beforeBy 2 35_000_000 ∷ beforeBy 2 25_000_000 ∷ [])
-      ∷ (higherBy 1 1 55_000_000 1_250_000 ∷ higherBy 1 2 0 0 ∷ higherBy 2 1 17_500_000 17_500_000 ∷ higherBy 2 2 0 0 ∷ [])
+  by-sums : {one two three four : HeldSums}
+      → (heldSums house 1 1 ≡ one) × (heldSums house 1 2 ≡ two) × (heldSums house 2 1 ≡ three) × (heldSums house 2 2 ≡ four)
+      → figures house
+      ≡ (fullBy 1 1 one ∷ fullBy 1 2 two ∷ fullBy 2 1 three ∷ fullBy 2 2 four ∷ [])
+      ∷ (beforeBy 1 one ∷ beforeBy 1 two ∷ beforeBy 2 three ∷ beforeBy 2 four ∷ [])
+      ∷ (higherBy 1 1 one ∷ higherBy 1 2 two ∷ higherBy 2 1 three ∷ higherBy 2 2 four ∷ [])
       ∷ []
   unfolding scores joined scoreWith scoreBefore layout higherBand endBand
-  by-walls = λ i.
-      (fullBy 1 1 (holds .0 i) (ends-hold .0 i) (ends-hold .1 i)
-      ∷ fullBy 1 2 (holds .1 i) (ends-hold .2 i) (ends-hold .3 i)
-      ∷ fullBy 2 1 (holds .2 i) (ends-hold .4 i) (ends-hold .5 i)
-      ∷ fullBy 2 2 (holds .3 i) (ends-hold .6 i) (ends-hold .7 i) ∷ [])
+  by-sums holds =
+      rw two-storeys (
+      λ i.
+      (fullBy 1 1 (holds .0 i) ∷ fullBy 1 2 (holds .1 i) ∷ fullBy 2 1 (holds .2 i) ∷ fullBy 2 2 (holds .3 i) ∷ [])
       ∷ (beforeBy 1 (holds .0 i) ∷ beforeBy 1 (holds .1 i) ∷ beforeBy 2 (holds .2 i) ∷ beforeBy 2 (holds .3 i) ∷ [])
-      ∷ (higherBy 1 1 (ends-hold .0 i) (ends-hold .1 i) ∷ higherBy 1 2 (ends-hold .2 i) (ends-hold .3 i)
-      ∷ higherBy 2 1 (ends-hold .4 i) (ends-hold .5 i) ∷ higherBy 2 2 (ends-hold .6 i) (ends-hold .7 i) ∷ [])
+      ∷ (higherBy 1 1 (holds .0 i) ∷ higherBy 1 2 (holds .1 i) ∷ higherBy 2 1 (holds .2 i) ∷ higherBy 2 2 (holds .3 i) ∷ [])
       ∷ []
+      )
+
+-- What is held in all, at end a and at end b.
+abbrev sums : ℕ → ℕ → ℕ → HeldSums
+sums all a b = record { all = all; a = a; b = b }
+
+-- What the house of two storeys holds, without snow and under 1 m.
+abbrev TwoHold : List ℕ → Type 0
+TwoHold house =
+    (heldSums house 1 1 ≡ sums 56_250_000 55_000_000 1_250_000)
+    × (heldSums house 1 2 ≡ sums 60_000_000 0 0)
+    × (heldSums house 2 1 ≡ sums 35_000_000 17_500_000 17_500_000)
+    × (heldSums house 2 2 ≡ sums 25_000_000 0 0)
+
+-- The walls of two storeys, as many in each, after the ends of an accepted table.
+abbrev StoreysWalls : List ℕ → ℕ → Type 0
+StoreysWalls table each = (storeyWalls table 1 ≡ rowsFrom table 7 each) × (storeyWalls table 2 ≡ rowsFrom table (7 + each) each)
+
+-- Whatever the five numbers are.
+module _ (weight zone ground age marked : ℕ) (accepted : Judged (twoStoreys weight zone ground age marked)) where
+  abbrev house : List ℕ
+  house = twoStoreys weight zone ground age marked
+
+  walls : StoreysWalls house 3
+  unfolding p1-walls
+  walls = (rw accepted, rw accepted)
+
+  holds : TwoHold house
+  unfolding p1-scores
+  holds = (rw (walls .0), rw (walls .0), rw (walls .1), rw (walls .1))
 
 -- From what they hold on all is computed.
 pub sound-figures : figures sound ≡ (131 ∷ 200 ∷ 350 ∷ 250 ∷ []) ∷ (188 ∷ 200 ∷ 350 ∷ 250 ∷ []) ∷ sameBands ∷ []
 unfolding endRequired required requiredOf narrow deterioration storeyFloorType wallRows first nth topLine constant snowAddition perArea groundFactor narrowFactor requiredStrength reached band floorType layoutFactor points countedMarks factorOf deteriorationFactor score
-sound-figures = by-walls 1 90 1 1 2048 (two-judged .0)
+sound-figures = by-sums _ refl (holds 1 90 1 1 2048 (two-judged .0))
 
 pub heavy-figures : figures heavy ≡ (103 ∷ 157 ∷ 244 ∷ 174 ∷ []) ∷ (147 ∷ 157 ∷ 244 ∷ 174 ∷ []) ∷ sameBands ∷ []
 unfolding sound-figures
-heavy-figures = by-walls 2 90 1 1 2048 (two-judged .1)
+heavy-figures = by-sums _ refl (holds 2 90 1 1 2048 (two-judged .1))
 
 pub zone-figures : figures zone100 ≡ (118 ∷ 180 ∷ 315 ∷ 225 ∷ []) ∷ (169 ∷ 180 ∷ 315 ∷ 225 ∷ []) ∷ sameBands ∷ []
 unfolding sound-figures
-zone-figures = by-walls 1 100 1 1 2048 (two-judged .2)
+zone-figures = by-sums _ refl (holds 1 100 1 1 2048 (two-judged .2))
 
 pub soft-ground-figures : figures softGround ≡ (87 ∷ 133 ∷ 233 ∷ 166 ∷ []) ∷ (125 ∷ 133 ∷ 233 ∷ 166 ∷ []) ∷ sameBands ∷ []
 unfolding sound-figures
-soft-ground-figures = by-walls 1 90 2 1 2048 (two-judged .3)
+soft-ground-figures = by-sums _ refl (holds 1 90 2 1 2048 (two-judged .3))
 
 pub over-ten-figures : figures overTen ≡ (126 ∷ 192 ∷ 335 ∷ 239 ∷ []) ∷ (180 ∷ 192 ∷ 335 ∷ 239 ∷ []) ∷ sameBands ∷ []
 unfolding sound-figures
-over-ten-figures = by-walls 1 90 1 2 2048 (two-judged .4)
+over-ten-figures = by-sums _ refl (holds 1 90 1 2 2048 (two-judged .4))
 
 pub more-marks-figures : figures moreMarks ≡ (104 ∷ 158 ∷ 277 ∷ 198 ∷ []) ∷ (149 ∷ 158 ∷ 277 ∷ 198 ∷ []) ∷ sameBands ∷ []
 unfolding sound-figures
-more-marks-figures = by-walls 1 90 1 1 2056 (two-judged .5)
+more-marks-figures = by-sums _ refl (holds 1 90 1 1 2056 (two-judged .5))
 
 pub all-worse-figures : figures allWorse ≡ (38 ∷ 74 ∷ 116 ∷ 82 ∷ []) ∷ (70 ∷ 74 ∷ 116 ∷ 82 ∷ []) ∷ sameBands ∷ []
 unfolding sound-figures
-all-worse-figures = by-walls 2 100 2 2 2056 (two-judged .6)
+all-worse-figures = by-sums _ refl (holds 2 100 2 2 2056 (two-judged .6))
 
 -- Under 1 m of snow: the sound house and the one that is worse in all five; and the house with weak joints, without snow and under 1 m.
 pub snowy-judged : Judged snowySound × Judged snowyWorse × (judging weakJoints ≡ counted 20) × (judging (underSnow 1 weakJoints) ≡ counted 20)
 unfolding p10-judged
 snowy-judged = (refl, refl, refl, refl)
-
--- The walls of two storeys, as many in each, after the ends of an accepted table.
-abbrev StoreysWalls : List ℕ → ℕ → Type 0
-StoreysWalls table each = (storeyWalls table 1 ≡ rowsFrom table 7 each) × (storeyWalls table 2 ≡ rowsFrom table (7 + each) each)
 
 snowy-walls : StoreysWalls snowySound 3 × StoreysWalls snowyWorse 3 × StoreysWalls weakJoints 6 × StoreysWalls (underSnow 1 weakJoints) 6
 unfolding p1-walls
@@ -249,18 +258,36 @@ snowy-walls = (
   (rw (snowy-judged .3), rw (snowy-judged .3)),
 )
 
+-- With joint I on foundation I no factor changes under snow; with joint IV all do.
+abbrev WeakHold : List ℕ → HeldSums → HeldSums → Type 0
+WeakHold house ground upper =
+    (heldSums house 1 1 ≡ ground) × (heldSums house 1 2 ≡ ground) × (heldSums house 2 1 ≡ upper) × (heldSums house 2 2 ≡ upper)
+
+snowy-hold :
+    TwoHold snowySound
+    × TwoHold snowyWorse
+    × WeakHold weakJoints (sums 33_852_000 11_284_000 11_284_000) (sums 14_810_250 4_936_750 4_936_750)
+    × WeakHold (underSnow 1 weakJoints) (sums 41_891_850 13_963_950 13_963_950) (sums 31_313_100 10_437_700 10_437_700)
+unfolding p1-scores
+snowy-hold = (
+  (rw (snowy-walls .0 .0), rw (snowy-walls .0 .0), rw (snowy-walls .0 .1), rw (snowy-walls .0 .1)),
+  (rw (snowy-walls .1 .0), rw (snowy-walls .1 .0), rw (snowy-walls .1 .1), rw (snowy-walls .1 .1)),
+  (rw (snowy-walls .2 .0), rw (snowy-walls .2 .0), rw (snowy-walls .2 .1), rw (snowy-walls .2 .1)),
+  (rw (snowy-walls .3 .0), rw (snowy-walls .3 .0), rw (snowy-walls .3 .1), rw (snowy-walls .3 .1)),
+)
+
 pub snowy-figures :
     (figures snowySound ≡ (78 ∷ 152 ∷ 205 ∷ 146 ∷ []) ∷ (143 ∷ 152 ∷ 205 ∷ 146 ∷ []) ∷ sameBands ∷ [])
     × (figures snowyWorse ≡ (30 ∷ 59 ∷ 77 ∷ 55 ∷ []) ∷ (56 ∷ 59 ∷ 77 ∷ 55 ∷ []) ∷ sameBands ∷ [])
-unfolding p1-scores
-snowy-figures = (rw (snowy-walls .0 .0, snowy-walls .0 .1), rw (snowy-walls .1 .0, snowy-walls .1 .1))
+unfolding sound-figures
+snowy-figures = (by-sums _ refl (snowy-hold .0), by-sums _ refl (snowy-hold .1))
 
 -- All four scores rise, on the ground with the better ends still in band C.
 pub weak-joints-figures :
     (figures weakJoints ≡ (60 ∷ 60 ∷ 47 ∷ 47 ∷ []) ∷ (60 ∷ 60 ∷ 47 ∷ 47 ∷ []) ∷ (2 ∷ 2 ∷ 1 ∷ 1 ∷ []) ∷ [])
     × (figures (underSnow 1 weakJoints) ≡ (62 ∷ 62 ∷ 75 ∷ 75 ∷ []) ∷ (62 ∷ 62 ∷ 75 ∷ 75 ∷ []) ∷ (2 ∷ 2 ∷ 3 ∷ 3 ∷ []) ∷ [])
-unfolding p1-scores
-weak-joints-figures = (rw (snowy-walls .2 .0, snowy-walls .2 .1), rw (snowy-walls .3 .0, snowy-walls .3 .1))
+unfolding sound-figures
+weak-joints-figures = (by-sums _ refl (snowy-hold .2), by-sums _ refl (snowy-hold .3))
 
 -- The records of the best and the worst of them, and where a record has the score of a storey and direction.
 pub worsened-records :
