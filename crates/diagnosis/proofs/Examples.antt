@@ -249,6 +249,11 @@ pub snowy-judged : Judged snowySound × Judged snowyWorse × (judging weakJoints
 unfolding p10-judged
 snowy-judged = (refl, refl, refl, refl)
 
+-- And the first two under 2 m and 2.5 m.
+pub deeper-judged : Judged (underSnow 2 sound) × Judged (underSnow 2 allWorse) × Judged (underSnow 3 sound) × Judged (underSnow 3 allWorse)
+unfolding p10-judged
+deeper-judged = (refl, refl, refl, refl)
+
 snowy-walls : StoreysWalls snowySound 3 × StoreysWalls snowyWorse 3 × StoreysWalls weakJoints 6 × StoreysWalls (underSnow 1 weakJoints) 6
 unfolding p1-walls
 snowy-walls = (

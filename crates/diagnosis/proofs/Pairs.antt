@@ -21,7 +21,7 @@ use Rattle.diagnosis.specs.House.{InHouse, scoreBefore, fullScore}
 use Rattle.diagnosis.specs.Comparison.{mayDiffer, NoLower, SameOrWorse, BandKept, Applies}
 use Rattle.diagnosis.specs.Worked.{p10, sound, heavy, zone100, softGround, overTen, moreMarks, allWorse, underSnow, snowySound, snowyWorse, weakJoints, figures, sameBands}
 use Rattle.diagnosis.proofs.ScoreLists.{one-or-two, score-at}
-use Rattle.diagnosis.proofs.Examples.{p10-judged, p10-rises, two-judged, sound-figures, heavy-figures, zone-figures, soft-ground-figures, over-ten-figures, more-marks-figures, all-worse-figures, snowy-judged, snowy-figures, weak-joints-figures}
+use Rattle.diagnosis.proofs.Examples.{p10-judged, p10-rises, two-judged, sound-figures, heavy-figures, zone-figures, soft-ground-figures, over-ten-figures, more-marks-figures, all-worse-figures, snowy-judged, deeper-judged, snowy-figures, weak-joints-figures}
 
 -- Whether the first rows of two tables, so many, hold equal numbers wherever they may not differ.
 alike : List ℕ → List ℕ → ℕ → Bool
@@ -114,14 +114,22 @@ worsened = (
   applies allWorse (two-judged .6) refl refl all-worse-figures (record { heavier = omega arith; higher = omega arith; softer = omega arith; older = omega arith }) refl,
 )
 
--- And one under snow, worse in all five.
-pub snowy-worsened : Applies snowySound snowyWorse
+-- And pairs under snow, worse in all five: at each depth one is the other made worse, and under 1 m all of demand 3 applies.
+pub snowy-worse :
+    SameOrWorse snowySound snowyWorse × SameOrWorse (underSnow 2 sound) (underSnow 2 allWorse) × SameOrWorse (underSnow 3 sound) (underSnow 3 allWorse)
 unfolding p10-worse
+snowy-worse = (
+  made-worse snowySound snowyWorse 14 (snowy-judged .0) (snowy-judged .1) refl refl refl
+      (record { heavier = omega arith; higher = omega arith; softer = omega arith; older = omega arith }) refl,
+  made-worse (underSnow 2 sound) (underSnow 2 allWorse) 14 (deeper-judged .0) (deeper-judged .1) refl refl refl
+      (record { heavier = omega arith; higher = omega arith; softer = omega arith; older = omega arith }) refl,
+  made-worse (underSnow 3 sound) (underSnow 3 allWorse) 14 (deeper-judged .2) (deeper-judged .3) refl refl refl
+      (record { heavier = omega arith; higher = omega arith; softer = omega arith; older = omega arith }) refl,
+)
+
+pub snowy-worsened : Applies snowySound snowyWorse
 snowy-worsened =
-    bands-kept-applies snowySound snowyWorse
-    (made-worse snowySound snowyWorse 14 (snowy-judged .0) (snowy-judged .1) refl refl refl
-    (record { heavier = omega arith; higher = omega arith; softer = omega arith; older = omega arith }) refl)
-    refl (ap bandsOf (snowy-figures .0)) (ap bandsOf (snowy-figures .1))
+    bands-kept-applies snowySound snowyWorse (snowy-worse .0) refl (ap bandsOf (snowy-figures .0)) (ap bandsOf (snowy-figures .1))
 
 -- The house with weak joints, without snow and under 1 m: the first number of a line of its figures.
 abbrev firstOf : ℕ → List (List ℕ) → ℕ

@@ -140,6 +140,17 @@ snowy-figures = examples.snowy-figures
 pub snowy-verdict : houseVerdict snowySound ≤ houseVerdict snowyWorse
 snowy-verdict = comparison snowySound snowyWorse (snowy-worsened .worse) .verdict (snowy-worsened .kept)
 
+-- And by the theorem the worse one's score before the layout factor is no higher under 2 m and 2.5 m either.
+pub deeper-before :
+    (scoreBefore (underSnow 2 allWorse) 1 1 ≤ scoreBefore (underSnow 2 sound) 1 1)
+    × (scoreBefore (underSnow 3 allWorse) 1 1 ≤ scoreBefore (underSnow 3 sound) 1 1)
+deeper-before =
+    let here : (table : List ℕ) → 1 ≤ storeys table → InHouse table 1 1 =
+    λ table some. record { some-storey = omega arith; last-storey = some; some-direction = omega arith; last-direction = omega arith } in (
+      comparison (underSnow 2 sound) (underSnow 2 allWorse) (pairs.snowy-worse .1) .before 1 1 (here (underSnow 2 sound) (omega arith)),
+      comparison (underSnow 3 sound) (underSnow 3 allWorse) (pairs.snowy-worse .2) .before 1 1 (here (underSnow 3 sound) (omega arith)),
+    )
+
 -- The snow has to be the same: a house without snow and the same under 1 m. Its scores rise from 60 to 62 on the ground, where its better ends stay in
 -- band C, and from 47 to 75 above, where they rise from B to D.
 pub weak-joints-figures :
