@@ -4,12 +4,13 @@ use mathlib.Core.Path.{_≡_, refl}
 use Prim.Native.Nat.{_*_, _≤_}
 use lib.Dec.{lit<, lit≤}
 use Rattle.method.specs.Printed.{nth}
-use Rattle.method.specs.Held.{position, foundationUsed, sharedRow, topEntry, entryIn, entry, interpolated, rowFactor, jointFactor, solidShare, openingShare, wallShare}
+use Rattle.method.specs.Held.{position, foundationUsed, sharedRow, topEntry, entryIn, entry, interpolated, below2, from2to3, from3to5, from5to7, above7, rowFactor, jointFactor, solidShare, openingShare, wallShare}
 use Rattle.method.specs.Required.{topLine, constant, snowAddition, perArea, groundFactor, narrowFactor, requiredStrength}
 use Rattle.method.specs.LayoutFactor.{reached, band, floorType, layoutFactor}
 use Rattle.method.specs.Deterioration.{points, fraction, countedMarks, factorOf, deteriorationFactor}
 use Rattle.method.specs.Score.{score, cappedScore, verdict}
-use Rattle.method.specs.Worked.{snowyHouse, house, housePart, items, strengths, bands, worked, expected, layoutTable, documentTable}
+use Rattle.method.specs.Worked.{upperJointIV, snowyHouse, house, housePart, items, strengths, bands, worked, expected, layoutTable, documentTable}
+use Rattle.method.proofs.Cases.{cases-meet, in-below-2, in-2-to-3, in-3-to-5, in-5-to-7, in-above-7}
 use Rattle.method.proofs.Requirements.{required-rises}
 use Rattle.method.proofs.Bands.{band-falls, layout-falls}
 use Rattle.method.proofs.Fractions.{deterioration-falls}
@@ -23,6 +24,26 @@ worked-out = refl
 pub document-table : layoutTable ≡ documentTable
 unfolding layoutFactor nth
 document-table = refl
+
+-- Joint IV in the upper storey of two, 0.7, 0.35, 0.25 and 0.2: the cases on both sides of each printed strength give these numbers,
+cases-met : (below2 upperJointIV ≡ 70) × (from2to3 upperJointIV 20 ≡ 70)
+    × (from2to3 upperJointIV 30 ≡ 35) × (from3to5 upperJointIV 30 ≡ 35)
+    × (from3to5 upperJointIV 50 ≡ 25) × (from5to7 upperJointIV 50 ≡ 25)
+    × (from5to7 upperJointIV 70 ≡ 20) × (above7 upperJointIV ≡ 20)
+unfolding entry topEntry nth
+cases-met = cases-meet 0 1 1 4
+
+-- and each case holds where the next begins.
+cases-held : (rowFactor upperJointIV 20 ≡ 70) × (rowFactor upperJointIV 30 ≡ 35) × (rowFactor upperJointIV 50 ≡ 25)
+    × (rowFactor upperJointIV 70 ≡ 20) × (rowFactor upperJointIV 70 ≡ 20)
+unfolding entry topEntry nth interpolated
+cases-held = (
+  in-below-2 upperJointIV 20 (lit≤ tt),
+  in-2-to-3 upperJointIV 30 (lit≤ tt) (lit≤ tt),
+  in-3-to-5 upperJointIV 50 (lit≤ tt) (lit≤ tt),
+  in-5-to-7 upperJointIV 70 (lit≤ tt) (lit≤ tt),
+  in-above-7 upperJointIV 70 (lit≤ tt),
+)
 
 -- Each law that compares, at numbers that compute: a further premise, a turned conclusion or another number would not fit here.
 

@@ -1,11 +1,11 @@
 -- The joint factor: which printed entry it takes, and that it never exceeds 100. Assumes nothing.
-use mathlib.Core.Path.{_≡_, refl, sym, ap}
+use mathlib.Core.Path.{_≡_, refl, sym, ap, _∙_}
 use mathlib.Core.Bool.{Bool, true, false, _&&_}
-use mathlib.Core.List.{List, [], _∷_}
-use Prim.Native.Nat.{ℕ, _-_, _*_, _<_, _≤_, zero-le}
+use mathlib.Core.List.{List, [], _∷_, map, flatten}
+use Prim.Native.Nat.{ℕ, _+_, _-_, _*_, _<_, _≤_, zero-le}
 use native.Mathlib.Nat.{le-of-suc-le-suc, le-trans, mul-le-mul-right, div-lt-iff-lt-mul}
 use native.Mathlib.Omega.{arith}
-use lib.ListN.{length, getD, List·getD-eq-default}
+use lib.ListN.{length, getD, List·getD-eq-default, List·getD-map}
 use lib.Dec.{eqb, ltb, lit≤}
 use borrow.Author.Tests.{leb-true, ltb-true, ltb-false, eqb-false, le-leb, eq-eqb, ne-eqb}
 use Rattle.method.specs.declared.rows.House.{House}
@@ -14,7 +14,7 @@ use Rattle.method.specs.Printed.{nth}
 use Rattle.method.specs.JointTables.{topStorey, otherStorey, oneStorey}
 use Rattle.method.specs.Held.{position, foundationUsed, sharedRow, topEntry, entryIn, entry, entries, interpolated, rowFactor, jointFactor}
 use Rattle.method.proofs.Branches.{cond-most, cond-least, cond-same, cond-every}
-use Rattle.method.proofs.Tables.{nth-is, nth-none, and-true, every, getD-every, nth-every, small, short}
+use Rattle.method.proofs.Tables.{nth-is, nth-none, and-true, every, getD-every, nth-every, small, short, full, getD-flatten}
 
 -- A test that every printed entry passes, of all snows and positions.
 abbrev everyTop : (ℕ → Bool) → Bool
@@ -133,26 +133,38 @@ module _ (snow position foundation joint : ℕ) where
   unfolding entry topEntry
   row-top top some = rw (eq-eqb position 1 top, nth-is (getD topStorey snow []) joint [] some)
 
-  row-in : (tables : List (List (List (List ℕ)))) {line : ℕ} → 1 ≤ foundation → 1 ≤ line
-      → entries (λ column. getD (getD (getD (getD tables snow []) (line - 1) []) column []) (foundation - 1) 0) ≡ entries (entryIn tables snow foundation line)
+  -- In the code a line's entries follow one another, three a strength.
+  in-line : (tables : List (List (List (List ℕ)))) → every (every (every (full 3))) tables ≡ true → (line column at : ℕ) → at < 3
+      → getD (getD (map flatten (getD tables snow [])) line []) (3 * column + at) 0 ≡ getD (getD (getD (getD tables snow []) line []) column []) at 0
+  unfolding flatten
+  in-line tables threes line column at less =
+      let table = getD tables snow [] in
+      rw (List·getD-map flatten table line [])
+      (getD-flatten 3 (getD table line []) (getD-every (every (full 3)) refl table (getD-every (every (every (full 3))) refl tables threes snow) line) column at 0 less)
+
+  row-in : (tables : List (List (List (List ℕ)))) → every (every (every (full 3))) tables ≡ true → {line : ℕ} → 1 ≤ foundation → foundation ≤ 3 → 1 ≤ line
+      → entries (λ column. getD (getD (map flatten (getD tables snow [])) (line - 1) []) (3 * column + (foundation - 1)) 0)
+      ≡ entries (entryIn tables snow foundation line)
   unfolding entryIn
-  row-in tables {line} known some =
+  row-in tables threes {line} known last some =
       let cell : ℕ → List ℕ = λ column. getD (getD (getD tables snow []) (line - 1) []) column [] in
       rw (nth-is (getD tables snow []) line [] some)
-      (entries-same (λ column. getD (cell column) (foundation - 1) 0) (λ column. nth (cell column) foundation 0) (λ column. sym (nth-is (cell column) foundation 0 known)))
+      (entries-same (λ column. getD (getD (map flatten (getD tables snow [])) (line - 1) []) (3 * column + (foundation - 1)) 0)
+      (λ column. nth (cell column) foundation 0)
+      (λ column. in-line tables threes (line - 1) column (foundation - 1) (omega arith) ∙ sym (nth-is (cell column) foundation 0 known)))
 
-  module _ (below : position ≡ 1 → ⊥) (known : 1 ≤ foundation) where
+  module _ (below : position ≡ 1 → ⊥) (known : 1 ≤ foundation) (last : foundation ≤ 3) where
     pub row-other : position ≡ 2 → 1 ≤ joint
-        → entries (λ column. getD (getD (getD (getD otherStorey snow []) (joint - 1) []) column []) (foundation - 1) 0)
+        → entries (λ column. getD (getD (map flatten (getD otherStorey snow [])) (joint - 1) []) (3 * column + (foundation - 1)) 0)
         ≡ entries (entry snow position foundation joint)
     unfolding entry
-    row-other other some = rw (ne-eqb position 1 below, eq-eqb position 2 other) (row-in otherStorey known some)
+    row-other other some = rw (ne-eqb position 1 below, eq-eqb position 2 other) (row-in otherStorey refl known last some)
 
     pub row-one : (position ≡ 2 → ⊥) → {line : ℕ} → line ≡ sharedRow joint → 1 ≤ line
-        → entries (λ column. getD (getD (getD (getD oneStorey snow []) (line - 1) []) column []) (foundation - 1) 0)
+        → entries (λ column. getD (getD (map flatten (getD oneStorey snow [])) (line - 1) []) (3 * column + (foundation - 1)) 0)
         ≡ entries (entry snow position foundation joint)
     unfolding entry
-    row-one one {line} shared some = rw (ne-eqb position 1 below, ne-eqb position 2 one, ← shared) (row-in oneStorey known some)
+    row-one one {line} shared some = rw (ne-eqb position 1 below, ne-eqb position 2 one, ← shared) (row-in oneStorey refl known last some)
 
 -- The factor by a row's four entries is that by the row.
 pub row-factor-by : (held : List ℕ) (row : ℕ → ℕ) (strength : ℕ) → held ≡ entries row → rowFactor (λ column. getD held column 0) strength ≡ rowFactor row strength

@@ -3,6 +3,7 @@ pub mod Branches
 pub mod Products
 pub mod Tables
 pub mod Factors
+pub mod Cases
 pub mod Shares
 pub mod Requirements
 pub mod Bands

@@ -1,12 +1,15 @@
 -- Printed tables: an element by its number, and rules that hold throughout a table by one test that is computed. Assumes nothing.
-use mathlib.Core.Path.{_≡_, refl, sym, ap, subst}
+use mathlib.Core.Path.{_≡_, refl, sym, ap, subst, _∙_}
 use mathlib.Core.Bool.{Bool, true, false, not, _&&_, _||_}
-use mathlib.Core.List.{List, [], _∷_, _++_}
-use Prim.Native.Nat.{ℕ, zero, suc, _-_, _<_, _≤_, zero-le}
+use mathlib.Core.List.{List, [], _∷_, _++_, map, flatten}
+use Prim.Native.Nat.{ℕ, zero, suc, _+_, _-_, _*_, _<_, _≤_, zero-le}
+use native.Mathlib.Nat.{mul-suc}
 use native.Mathlib.Omega.{arith}
 use native.Mathlib.Decide.{decLt}
-use lib.ListN.{length, getD, List·getD-eq-default}
-use lib.Dec.{T, leb}
+use lib.ListN.{length, getD, List·getD-eq-default, List·getD-append}
+use lib.Seq.{getD-append-add}
+use lib.Dec.{T, eqb, leb}
+use borrow.Author.Tests.{eqb-true}
 use Rattle.method.specs.Printed.{nth}
 
 module _ {A : Type 0} (list : List A) where
@@ -25,6 +28,10 @@ module _ {A : Type 0} (list : List A) where
 -- One of several tables, by a number that it is known to have.
 pub table-of : {A : Type 0} (tables : List (List A)) (n m : ℕ) → m ≡ n → getD tables n [] ≡ getD tables m []
 table-of tables n m same = ap (λ (k : ℕ). getD tables k []) (sym same)
+
+-- The same with the parts of each of its lines one after the other.
+pub lines-of : {A : Type 0} (tables : List (List (List (List A)))) (n m : ℕ) → m ≡ n → map flatten (getD tables n []) ≡ map flatten (getD tables m [])
+lines-of tables n m same = ap (map flatten) (table-of tables n m same)
 
 -- Both of two tests.
 pub and-true : (a b : Bool) → a && b ≡ true → (a ≡ true) × (b ≡ true)
@@ -73,6 +80,24 @@ small most entry = leb entry most
 -- The test that a line is at most so long.
 abbrev pub short : {A : Type 0} → ℕ → List A → Bool
 short most line = leb (length line) most
+
+-- The test that a line has just so many elements.
+abbrev pub full : {A : Type 0} → ℕ → List A → Bool
+full size line = eqb (length line) size
+
+-- Lines of one length, one after the other: an element by the line and the place in it.
+pub getD-flatten : {A : Type 0} (size : ℕ) (lines : List (List A)) → every (full size) lines ≡ true → (n i : ℕ) (none : A) → i < size
+    → getD (flatten lines) (size * n + i) none ≡ getD (getD lines n []) i none
+unfolding flatten
+getD-flatten size [] h n i none less = refl
+getD-flatten size (line ∷ lines) h zero i none less =
+    let long = eqb-true (length line) size (and-true (full size line) (every (full size) lines) h .0) in
+    ap (λ (k : ℕ). getD (line ++ flatten lines) k none) (omega arith) ∙ List·getD-append line (flatten lines) none i (omega arith)
+getD-flatten size (line ∷ lines) h (suc n) i none less =
+    let both = and-true (full size line) (every (full size) lines) h in
+    let long = eqb-true (length line) size (both .0) in
+    ap (λ (k : ℕ). getD (line ++ flatten lines) k none) (omega (arith, mul-suc size n)) ∙ getD-append-add line (flatten lines) (size * n + i) none
+    ∙ getD-flatten size lines (both .1) n i none less
 
 -- A test that every number below a bound passes.
 unfoldable pub everyBelow : ℕ → (ℕ → Bool) → Bool

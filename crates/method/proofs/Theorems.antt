@@ -10,18 +10,40 @@ use Rattle.method.specs.declared.rows.HousePart.{HousePart}
 use Rattle.method.specs.declared.rows.Items.{Items}
 use Rattle.method.specs.declared.rows.Strengths.{Strengths}
 use Rattle.method.specs.declared.rows.Bands.{Bands}
-use Rattle.method.specs.Held.{mostHeld}
+use Rattle.method.specs.JointTables.{at2, at3, at5, at7}
+use Rattle.method.specs.Held.{entry, below2, from2to3, from3to5, from5to7, above7, rowFactor, mostHeld}
 use Rattle.method.specs.Required.{requiredStrength, mostRequired}
 use Rattle.method.specs.LayoutFactor.{NoStronger, band, layoutFactor}
 use Rattle.method.specs.Deterioration.{itemPoints, itemPointsUnderTen, points, _at-most_, deteriorationFactor}
 use Rattle.method.specs.Score.{score, scoreBeforeLayout, cappedScore, verdict}
 use Rattle.method.specs.Worked.{worked, expected, layoutTable, documentTable}
+use Rattle.method.proofs.Cases as cases
 use Rattle.method.proofs.Requirements as requirements
 use Rattle.method.proofs.Bands as bands
 use Rattle.method.proofs.Points as counts
 use Rattle.method.proofs.Fractions as fractions
 use Rattle.method.proofs.Comparisons as comparisons
 use Rattle.method.proofs.Examples as examples
+
+-- Joint factor. "At 2.0, 3.0, 5.0 and 7.0 the cases on both sides are proved to give the printed entry" (document 02, request 2), in every row of the
+-- tables: for every snow, position, foundation and joint.
+pub cases-meet : (snow position foundation joint : ℕ)
+    → let row = entry snow position foundation joint in
+    (below2 row ≡ row at2) × (from2to3 row 20 ≡ row at2)
+    × (from2to3 row 30 ≡ row at3) × (from3to5 row 30 ≡ row at3)
+    × (from3to5 row 50 ≡ row at5) × (from5to7 row 50 ≡ row at5)
+    × (from5to7 row 70 ≡ row at7) × (above7 row ≡ row at7)
+cases-meet = cases.cases-meet
+
+-- Each case holds up to both of its ends, so it does not matter to which of its two cases a printed strength is counted.
+pub case-by-case : (row : ℕ → ℕ) (strength : ℕ)
+    → (strength ≤ 20 → rowFactor row strength ≡ below2 row)
+    × (20 ≤ strength → strength ≤ 30 → rowFactor row strength ≡ from2to3 row strength)
+    × (30 ≤ strength → strength ≤ 50 → rowFactor row strength ≡ from3to5 row strength)
+    × (50 ≤ strength → strength ≤ 70 → rowFactor row strength ≡ from5to7 row strength)
+    × (70 ≤ strength → rowFactor row strength ≡ above7 row)
+case-by-case row strength =
+    (cases.in-below-2 row strength, cases.in-2-to-3 row strength, cases.in-3-to-5 row strength, cases.in-5-to-7 row strength, cases.in-above-7 row strength)
 
 -- Layout factor. Document 01's table, by lower and higher band (A is 0, E is 4) and by floor type 1/2/3, is what the layout factor gives.
 pub document-table : layoutTable ≡ documentTable

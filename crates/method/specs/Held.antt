@@ -7,7 +7,7 @@ use lib.Dec.{eqb, ltb}
 use Rattle.method.specs.declared.rows.House.{House}
 use Rattle.method.specs.declared.rows.Wall.{Wall}
 use Rattle.method.specs.Printed.{nth}
-use Rattle.method.specs.JointTables.{topStorey, otherStorey, oneStorey}
+use Rattle.method.specs.JointTables.{topStorey, otherStorey, oneStorey, at2, at3, at5, at7}
 
 -- Which of the three printed tables a storey takes: 1 the top storey of two or three, 2 another storey of two or three, 3 one storey. Numbers that
 -- no house has go by the same tests.
@@ -39,21 +39,40 @@ entry snow position foundation joint column =
 
 -- A row's entries at 2.0, 3.0, 5.0 and 7.0 kN/m, as the code holds them.
 abbrev pub entries : (ℕ → ℕ) → List ℕ
-entries row = row 0 ∷ row 1 ∷ row 2 ∷ row 3 ∷ []
+entries row = row at2 ∷ row at3 ∷ row at5 ∷ row at7 ∷ []
 
 -- "Between, go straight from entry to entry and round to the nearest hundredth, half up": from one strength and its entry to the next.
 unfoldable pub interpolated : ℕ → ℕ → ℕ → ℕ → ℕ → ℕ
 interpolated from to left right strength =
     (2 * (left * (to - strength) + right * (strength - from)) + (to - from)) / (2 * (to - from))
 
--- The factor of a strength in 0.1 kN/m by the four entries of a row. "Below 2.0 the 2.0 entry holds, above 7.0 the 7.0 entry."
+-- The factor by the four entries of a row is one of five cases, in the page's order (document 02, request 2); a strength is in 0.1 kN/m. "Below 2.0
+-- the 2.0 entry holds".
+abbrev pub below2 : (ℕ → ℕ) → ℕ
+below2 row = row at2
+
+-- From 2.0 to 3.0, from 3.0 to 5.0 and from 5.0 to 7.0 it goes straight from entry to entry.
+abbrev pub from2to3 : (ℕ → ℕ) → ℕ → ℕ
+from2to3 row strength = interpolated 20 30 (row at2) (row at3) strength
+
+abbrev pub from3to5 : (ℕ → ℕ) → ℕ → ℕ
+from3to5 row strength = interpolated 30 50 (row at3) (row at5) strength
+
+abbrev pub from5to7 : (ℕ → ℕ) → ℕ → ℕ
+from5to7 row strength = interpolated 50 70 (row at5) (row at7) strength
+
+-- "above 7.0 the 7.0 entry."
+abbrev pub above7 : (ℕ → ℕ) → ℕ
+above7 row = row at7
+
+-- The factor of a strength: the case that it is in.
 unfoldable pub rowFactor : (ℕ → ℕ) → ℕ → ℕ
 rowFactor row strength =
-    cond (ltb strength 20) (row 0)
-    (cond (ltb strength 30) (interpolated 20 30 (row 0) (row 1) strength)
-    (cond (ltb strength 50) (interpolated 30 50 (row 1) (row 2) strength)
-    (cond (ltb strength 70) (interpolated 50 70 (row 2) (row 3) strength)
-    (row 3))))
+    cond (ltb strength 20) (below2 row)
+    (cond (ltb strength 30) (from2to3 row strength)
+    (cond (ltb strength 50) (from3to5 row strength)
+    (cond (ltb strength 70) (from5to7 row strength)
+    (above7 row))))
 
 -- Document 01's joint factor (000's Kj, and under snow its Kjs) of a solid wall in a storey of a house, in hundredths. "The joint factor then comes
 -- from 000's table 4.4, with the same straight line between entries" (document 02, request 1).

@@ -1,5 +1,6 @@
--- The factors that 000 prints for the joints of a wall's columns, in hundredths, as they are printed. Document 01, "Held strength", and document
--- 02, request 1. Each is a line a joint; from the left the strengths 2.0, 3.0, 5.0 and 7.0 kN/m, in ② and ③ each for foundations I, II and III.
+-- The factors that 000 prints for the joints of a wall's columns, as they are printed. Document 01, "Held strength", and document 02, request 1. Each
+-- is a line a joint, with the strengths over it and, in ② and ③, under each strength the three foundations. They are in hundredths, each with three
+-- digits, so that it stands under its heading: 085 is the page's 0.85.
 use mathlib.Core.List.{List, [], _∷_}
 use Prim.Native.Nat.{ℕ}
 
@@ -7,114 +8,134 @@ use Prim.Native.Nat.{ℕ}
 -- once more, for houses of one and two storeys.
 
 -- ① The top storey of two or three.
+--   2.0   3.0   5.0   7.0 kN/m
 abbrev pub topStoreyNoSnow : List (List ℕ)
 topStoreyNoSnow =
-    (100 ∷ 100 ∷ 100 ∷ 100 ∷ [])  -- joint I
-    ∷ (100 ∷ 80 ∷ 65 ∷ 50 ∷ [])  -- joint II
-    ∷ (70 ∷ 60 ∷ 45 ∷ 35 ∷ [])  -- joint III
-    ∷ (70 ∷ 35 ∷ 25 ∷ 20 ∷ [])  -- joint IV
-    ∷ []
+    (100 ∷ 100 ∷ 100 ∷ 100 ∷ []) ∷  -- joint I
+    (100 ∷ 080 ∷ 065 ∷ 050 ∷ []) ∷  -- joint II
+    (070 ∷ 060 ∷ 045 ∷ 035 ∷ []) ∷  -- joint III
+    (070 ∷ 035 ∷ 025 ∷ 020 ∷ []) ∷  -- joint IV
+    []
 
 -- ② The other storeys of two or three.
+--    2.0                      3.0                      5.0                      7.0 kN/m
+--    I     II    III          I     II    III          I     II    III          I     II    III foundation
 abbrev pub otherStoreyNoSnow : List (List (List ℕ))
 otherStoreyNoSnow =
-    ((100 ∷ 100 ∷ 100 ∷ []) ∷ (100 ∷ 90 ∷ 80 ∷ []) ∷ (100 ∷ 85 ∷ 70 ∷ []) ∷ (100 ∷ 80 ∷ 60 ∷ []) ∷ [])  -- joint I
-    ∷ ((100 ∷ 100 ∷ 100 ∷ []) ∷ (100 ∷ 90 ∷ 80 ∷ []) ∷ (90 ∷ 80 ∷ 70 ∷ []) ∷ (80 ∷ 70 ∷ 60 ∷ []) ∷ [])  -- joint II
-    ∷ ((100 ∷ 100 ∷ 100 ∷ []) ∷ (80 ∷ 80 ∷ 80 ∷ []) ∷ (70 ∷ 70 ∷ 70 ∷ []) ∷ (60 ∷ 60 ∷ 60 ∷ []) ∷ [])  -- joint III
-    ∷ ((100 ∷ 100 ∷ 100 ∷ []) ∷ (80 ∷ 80 ∷ 80 ∷ []) ∷ (70 ∷ 70 ∷ 70 ∷ []) ∷ (60 ∷ 60 ∷ 60 ∷ []) ∷ [])  -- joint IV
-    ∷ []
+    ((100 ∷ 100 ∷ 100 ∷ []) ∷ (100 ∷ 090 ∷ 080 ∷ []) ∷ (100 ∷ 085 ∷ 070 ∷ []) ∷ (100 ∷ 080 ∷ 060 ∷ []) ∷ []) ∷  -- joint I
+    ((100 ∷ 100 ∷ 100 ∷ []) ∷ (100 ∷ 090 ∷ 080 ∷ []) ∷ (090 ∷ 080 ∷ 070 ∷ []) ∷ (080 ∷ 070 ∷ 060 ∷ []) ∷ []) ∷  -- joint II
+    ((100 ∷ 100 ∷ 100 ∷ []) ∷ (080 ∷ 080 ∷ 080 ∷ []) ∷ (070 ∷ 070 ∷ 070 ∷ []) ∷ (060 ∷ 060 ∷ 060 ∷ []) ∷ []) ∷  -- joint III
+    ((100 ∷ 100 ∷ 100 ∷ []) ∷ (080 ∷ 080 ∷ 080 ∷ []) ∷ (070 ∷ 070 ∷ 070 ∷ []) ∷ (060 ∷ 060 ∷ 060 ∷ []) ∷ []) ∷  -- joint IV
+    []
 
 -- ③ One storey.
+--    2.0                      3.0                      5.0                      7.0 kN/m
+--    I     II    III          I     II    III          I     II    III          I     II    III foundation
 abbrev pub oneStoreyNoSnow : List (List (List ℕ))
 oneStoreyNoSnow =
-    ((100 ∷ 85 ∷ 70 ∷ []) ∷ (100 ∷ 85 ∷ 70 ∷ []) ∷ (100 ∷ 80 ∷ 70 ∷ []) ∷ (100 ∷ 80 ∷ 70 ∷ []) ∷ [])  -- joint I
-    ∷ ((100 ∷ 85 ∷ 70 ∷ []) ∷ (90 ∷ 75 ∷ 70 ∷ []) ∷ (85 ∷ 70 ∷ 65 ∷ []) ∷ (80 ∷ 70 ∷ 60 ∷ []) ∷ [])  -- joint II
-    ∷ ((70 ∷ 70 ∷ 70 ∷ []) ∷ (60 ∷ 60 ∷ 60 ∷ []) ∷ (50 ∷ 50 ∷ 50 ∷ []) ∷ (30 ∷ 30 ∷ 30 ∷ []) ∷ [])  -- joints III and IV
-    ∷ []
+    ((100 ∷ 085 ∷ 070 ∷ []) ∷ (100 ∷ 085 ∷ 070 ∷ []) ∷ (100 ∷ 080 ∷ 070 ∷ []) ∷ (100 ∷ 080 ∷ 070 ∷ []) ∷ []) ∷  -- joint I
+    ((100 ∷ 085 ∷ 070 ∷ []) ∷ (090 ∷ 075 ∷ 070 ∷ []) ∷ (085 ∷ 070 ∷ 065 ∷ []) ∷ (080 ∷ 070 ∷ 060 ∷ []) ∷ []) ∷  -- joint II
+    ((070 ∷ 070 ∷ 070 ∷ []) ∷ (060 ∷ 060 ∷ 060 ∷ []) ∷ (050 ∷ 050 ∷ 050 ∷ []) ∷ (030 ∷ 030 ∷ 030 ∷ []) ∷ []) ∷  -- joints III and IV
+    []
 
 -- Snow of 1 m, where it is cleared off: 000's table 4.4.
 
 -- ① The top storey of two or three.
+--   2.0   3.0   5.0   7.0 kN/m
 abbrev pub topStorey1m : List (List ℕ)
 topStorey1m =
-    (100 ∷ 100 ∷ 100 ∷ 100 ∷ [])  -- joint I
-    ∷ (100 ∷ 90 ∷ 85 ∷ 75 ∷ [])  -- joint II
-    ∷ (100 ∷ 75 ∷ 65 ∷ 55 ∷ [])  -- joint III
-    ∷ (100 ∷ 75 ∷ 60 ∷ 50 ∷ [])  -- joint IV
-    ∷ []
+    (100 ∷ 100 ∷ 100 ∷ 100 ∷ []) ∷  -- joint I
+    (100 ∷ 090 ∷ 085 ∷ 075 ∷ []) ∷  -- joint II
+    (100 ∷ 075 ∷ 065 ∷ 055 ∷ []) ∷  -- joint III
+    (100 ∷ 075 ∷ 060 ∷ 050 ∷ []) ∷  -- joint IV
+    []
 
 -- ② The other storeys of two or three.
+--    2.0                      3.0                      5.0                      7.0 kN/m
+--    I     II    III          I     II    III          I     II    III          I     II    III foundation
 abbrev pub otherStorey1m : List (List (List ℕ))
 otherStorey1m =
-    ((100 ∷ 100 ∷ 100 ∷ []) ∷ (100 ∷ 100 ∷ 100 ∷ []) ∷ (100 ∷ 90 ∷ 85 ∷ []) ∷ (100 ∷ 85 ∷ 75 ∷ []) ∷ [])  -- joint I
-    ∷ ((100 ∷ 100 ∷ 100 ∷ []) ∷ (100 ∷ 100 ∷ 100 ∷ []) ∷ (95 ∷ 90 ∷ 85 ∷ []) ∷ (95 ∷ 85 ∷ 75 ∷ []) ∷ [])  -- joint II
-    ∷ ((100 ∷ 100 ∷ 100 ∷ []) ∷ (100 ∷ 100 ∷ 100 ∷ []) ∷ (85 ∷ 85 ∷ 85 ∷ []) ∷ (75 ∷ 75 ∷ 75 ∷ []) ∷ [])  -- joint III
-    ∷ ((100 ∷ 100 ∷ 100 ∷ []) ∷ (100 ∷ 100 ∷ 100 ∷ []) ∷ (85 ∷ 85 ∷ 85 ∷ []) ∷ (75 ∷ 75 ∷ 75 ∷ []) ∷ [])  -- joint IV
-    ∷ []
+    ((100 ∷ 100 ∷ 100 ∷ []) ∷ (100 ∷ 100 ∷ 100 ∷ []) ∷ (100 ∷ 090 ∷ 085 ∷ []) ∷ (100 ∷ 085 ∷ 075 ∷ []) ∷ []) ∷  -- joint I
+    ((100 ∷ 100 ∷ 100 ∷ []) ∷ (100 ∷ 100 ∷ 100 ∷ []) ∷ (095 ∷ 090 ∷ 085 ∷ []) ∷ (095 ∷ 085 ∷ 075 ∷ []) ∷ []) ∷  -- joint II
+    ((100 ∷ 100 ∷ 100 ∷ []) ∷ (100 ∷ 100 ∷ 100 ∷ []) ∷ (085 ∷ 085 ∷ 085 ∷ []) ∷ (075 ∷ 075 ∷ 075 ∷ []) ∷ []) ∷  -- joint III
+    ((100 ∷ 100 ∷ 100 ∷ []) ∷ (100 ∷ 100 ∷ 100 ∷ []) ∷ (085 ∷ 085 ∷ 085 ∷ []) ∷ (075 ∷ 075 ∷ 075 ∷ []) ∷ []) ∷  -- joint IV
+    []
 
 -- ③ One storey.
+--    2.0                      3.0                      5.0                      7.0 kN/m
+--    I     II    III          I     II    III          I     II    III          I     II    III foundation
 abbrev pub oneStorey1m : List (List (List ℕ))
 oneStorey1m =
-    ((100 ∷ 100 ∷ 100 ∷ []) ∷ (100 ∷ 85 ∷ 75 ∷ []) ∷ (100 ∷ 80 ∷ 70 ∷ []) ∷ (100 ∷ 80 ∷ 70 ∷ []) ∷ [])  -- joint I
-    ∷ ((100 ∷ 100 ∷ 100 ∷ []) ∷ (90 ∷ 80 ∷ 75 ∷ []) ∷ (85 ∷ 70 ∷ 65 ∷ []) ∷ (80 ∷ 70 ∷ 60 ∷ []) ∷ [])  -- joint II
-    ∷ ((100 ∷ 100 ∷ 100 ∷ []) ∷ (75 ∷ 75 ∷ 75 ∷ []) ∷ (65 ∷ 65 ∷ 65 ∷ []) ∷ (35 ∷ 35 ∷ 35 ∷ []) ∷ [])  -- joints III and IV
-    ∷ []
+    ((100 ∷ 100 ∷ 100 ∷ []) ∷ (100 ∷ 085 ∷ 075 ∷ []) ∷ (100 ∷ 080 ∷ 070 ∷ []) ∷ (100 ∷ 080 ∷ 070 ∷ []) ∷ []) ∷  -- joint I
+    ((100 ∷ 100 ∷ 100 ∷ []) ∷ (090 ∷ 080 ∷ 075 ∷ []) ∷ (085 ∷ 070 ∷ 065 ∷ []) ∷ (080 ∷ 070 ∷ 060 ∷ []) ∷ []) ∷  -- joint II
+    ((100 ∷ 100 ∷ 100 ∷ []) ∷ (075 ∷ 075 ∷ 075 ∷ []) ∷ (065 ∷ 065 ∷ 065 ∷ []) ∷ (035 ∷ 035 ∷ 035 ∷ []) ∷ []) ∷  -- joints III and IV
+    []
 
 -- Snow of 2 m, where it is not cleared off: 000's table 4.4.
 
 -- ① The top storey of two or three.
+--   2.0   3.0   5.0   7.0 kN/m
 abbrev pub topStorey2m : List (List ℕ)
 topStorey2m =
-    (100 ∷ 100 ∷ 100 ∷ 100 ∷ [])  -- joint I
-    ∷ (100 ∷ 95 ∷ 85 ∷ 80 ∷ [])  -- joint II
-    ∷ (100 ∷ 85 ∷ 75 ∷ 70 ∷ [])  -- joint III
-    ∷ (100 ∷ 85 ∷ 75 ∷ 70 ∷ [])  -- joint IV
-    ∷ []
+    (100 ∷ 100 ∷ 100 ∷ 100 ∷ []) ∷  -- joint I
+    (100 ∷ 095 ∷ 085 ∷ 080 ∷ []) ∷  -- joint II
+    (100 ∷ 085 ∷ 075 ∷ 070 ∷ []) ∷  -- joint III
+    (100 ∷ 085 ∷ 075 ∷ 070 ∷ []) ∷  -- joint IV
+    []
 
 -- ② The other storeys of two or three.
+--    2.0                      3.0                      5.0                      7.0 kN/m
+--    I     II    III          I     II    III          I     II    III          I     II    III foundation
 abbrev pub otherStorey2m : List (List (List ℕ))
 otherStorey2m =
-    ((100 ∷ 100 ∷ 100 ∷ []) ∷ (100 ∷ 100 ∷ 100 ∷ []) ∷ (100 ∷ 95 ∷ 95 ∷ []) ∷ (100 ∷ 95 ∷ 90 ∷ []) ∷ [])  -- joint I
-    ∷ ((100 ∷ 100 ∷ 100 ∷ []) ∷ (100 ∷ 100 ∷ 100 ∷ []) ∷ (100 ∷ 95 ∷ 95 ∷ []) ∷ (100 ∷ 95 ∷ 90 ∷ []) ∷ [])  -- joint II
-    ∷ ((100 ∷ 100 ∷ 100 ∷ []) ∷ (100 ∷ 100 ∷ 100 ∷ []) ∷ (95 ∷ 95 ∷ 95 ∷ []) ∷ (90 ∷ 90 ∷ 90 ∷ []) ∷ [])  -- joint III
-    ∷ ((100 ∷ 100 ∷ 100 ∷ []) ∷ (100 ∷ 100 ∷ 100 ∷ []) ∷ (95 ∷ 95 ∷ 95 ∷ []) ∷ (90 ∷ 90 ∷ 90 ∷ []) ∷ [])  -- joint IV
-    ∷ []
+    ((100 ∷ 100 ∷ 100 ∷ []) ∷ (100 ∷ 100 ∷ 100 ∷ []) ∷ (100 ∷ 095 ∷ 095 ∷ []) ∷ (100 ∷ 095 ∷ 090 ∷ []) ∷ []) ∷  -- joint I
+    ((100 ∷ 100 ∷ 100 ∷ []) ∷ (100 ∷ 100 ∷ 100 ∷ []) ∷ (100 ∷ 095 ∷ 095 ∷ []) ∷ (100 ∷ 095 ∷ 090 ∷ []) ∷ []) ∷  -- joint II
+    ((100 ∷ 100 ∷ 100 ∷ []) ∷ (100 ∷ 100 ∷ 100 ∷ []) ∷ (095 ∷ 095 ∷ 095 ∷ []) ∷ (090 ∷ 090 ∷ 090 ∷ []) ∷ []) ∷  -- joint III
+    ((100 ∷ 100 ∷ 100 ∷ []) ∷ (100 ∷ 100 ∷ 100 ∷ []) ∷ (095 ∷ 095 ∷ 095 ∷ []) ∷ (090 ∷ 090 ∷ 090 ∷ []) ∷ []) ∷  -- joint IV
+    []
 
 -- ③ One storey.
+--    2.0                      3.0                      5.0                      7.0 kN/m
+--    I     II    III          I     II    III          I     II    III          I     II    III foundation
 abbrev pub oneStorey2m : List (List (List ℕ))
 oneStorey2m =
-    ((100 ∷ 100 ∷ 100 ∷ []) ∷ (100 ∷ 90 ∷ 85 ∷ []) ∷ (100 ∷ 85 ∷ 75 ∷ []) ∷ (100 ∷ 85 ∷ 75 ∷ []) ∷ [])  -- joint I
-    ∷ ((100 ∷ 100 ∷ 100 ∷ []) ∷ (95 ∷ 90 ∷ 85 ∷ []) ∷ (85 ∷ 80 ∷ 75 ∷ []) ∷ (80 ∷ 75 ∷ 70 ∷ []) ∷ [])  -- joint II
-    ∷ ((100 ∷ 100 ∷ 100 ∷ []) ∷ (85 ∷ 85 ∷ 85 ∷ []) ∷ (80 ∷ 80 ∷ 75 ∷ []) ∷ (50 ∷ 50 ∷ 50 ∷ []) ∷ [])  -- joints III and IV
-    ∷ []
+    ((100 ∷ 100 ∷ 100 ∷ []) ∷ (100 ∷ 090 ∷ 085 ∷ []) ∷ (100 ∷ 085 ∷ 075 ∷ []) ∷ (100 ∷ 085 ∷ 075 ∷ []) ∷ []) ∷  -- joint I
+    ((100 ∷ 100 ∷ 100 ∷ []) ∷ (095 ∷ 090 ∷ 085 ∷ []) ∷ (085 ∷ 080 ∷ 075 ∷ []) ∷ (080 ∷ 075 ∷ 070 ∷ []) ∷ []) ∷  -- joint II
+    ((100 ∷ 100 ∷ 100 ∷ []) ∷ (085 ∷ 085 ∷ 085 ∷ []) ∷ (080 ∷ 080 ∷ 075 ∷ []) ∷ (050 ∷ 050 ∷ 050 ∷ []) ∷ []) ∷  -- joints III and IV
+    []
 
 -- Snow of 2.5 m, where it is not cleared off: 000's table 4.4. Its ② is that of 2 m once more.
 
 -- ① The top storey of two or three.
+--   2.0   3.0   5.0   7.0 kN/m
 abbrev pub topStorey2m50 : List (List ℕ)
 topStorey2m50 =
-    (100 ∷ 100 ∷ 100 ∷ 100 ∷ [])  -- joint I
-    ∷ (100 ∷ 95 ∷ 90 ∷ 85 ∷ [])  -- joint II
-    ∷ (100 ∷ 90 ∷ 80 ∷ 75 ∷ [])  -- joint III
-    ∷ (100 ∷ 90 ∷ 80 ∷ 75 ∷ [])  -- joint IV
-    ∷ []
+    (100 ∷ 100 ∷ 100 ∷ 100 ∷ []) ∷  -- joint I
+    (100 ∷ 095 ∷ 090 ∷ 085 ∷ []) ∷  -- joint II
+    (100 ∷ 090 ∷ 080 ∷ 075 ∷ []) ∷  -- joint III
+    (100 ∷ 090 ∷ 080 ∷ 075 ∷ []) ∷  -- joint IV
+    []
 
 -- ② The other storeys of two or three.
+--    2.0                      3.0                      5.0                      7.0 kN/m
+--    I     II    III          I     II    III          I     II    III          I     II    III foundation
 abbrev pub otherStorey2m50 : List (List (List ℕ))
 otherStorey2m50 =
-    ((100 ∷ 100 ∷ 100 ∷ []) ∷ (100 ∷ 100 ∷ 100 ∷ []) ∷ (100 ∷ 95 ∷ 95 ∷ []) ∷ (100 ∷ 95 ∷ 90 ∷ []) ∷ [])  -- joint I
-    ∷ ((100 ∷ 100 ∷ 100 ∷ []) ∷ (100 ∷ 100 ∷ 100 ∷ []) ∷ (100 ∷ 95 ∷ 95 ∷ []) ∷ (100 ∷ 95 ∷ 90 ∷ []) ∷ [])  -- joint II
-    ∷ ((100 ∷ 100 ∷ 100 ∷ []) ∷ (100 ∷ 100 ∷ 100 ∷ []) ∷ (95 ∷ 95 ∷ 95 ∷ []) ∷ (90 ∷ 90 ∷ 90 ∷ []) ∷ [])  -- joint III
-    ∷ ((100 ∷ 100 ∷ 100 ∷ []) ∷ (100 ∷ 100 ∷ 100 ∷ []) ∷ (95 ∷ 95 ∷ 95 ∷ []) ∷ (90 ∷ 90 ∷ 90 ∷ []) ∷ [])  -- joint IV
-    ∷ []
+    ((100 ∷ 100 ∷ 100 ∷ []) ∷ (100 ∷ 100 ∷ 100 ∷ []) ∷ (100 ∷ 095 ∷ 095 ∷ []) ∷ (100 ∷ 095 ∷ 090 ∷ []) ∷ []) ∷  -- joint I
+    ((100 ∷ 100 ∷ 100 ∷ []) ∷ (100 ∷ 100 ∷ 100 ∷ []) ∷ (100 ∷ 095 ∷ 095 ∷ []) ∷ (100 ∷ 095 ∷ 090 ∷ []) ∷ []) ∷  -- joint II
+    ((100 ∷ 100 ∷ 100 ∷ []) ∷ (100 ∷ 100 ∷ 100 ∷ []) ∷ (095 ∷ 095 ∷ 095 ∷ []) ∷ (090 ∷ 090 ∷ 090 ∷ []) ∷ []) ∷  -- joint III
+    ((100 ∷ 100 ∷ 100 ∷ []) ∷ (100 ∷ 100 ∷ 100 ∷ []) ∷ (095 ∷ 095 ∷ 095 ∷ []) ∷ (090 ∷ 090 ∷ 090 ∷ []) ∷ []) ∷  -- joint IV
+    []
 
 -- ③ One storey.
+--    2.0                      3.0                      5.0                      7.0 kN/m
+--    I     II    III          I     II    III          I     II    III          I     II    III foundation
 abbrev pub oneStorey2m50 : List (List (List ℕ))
 oneStorey2m50 =
-    ((100 ∷ 100 ∷ 100 ∷ []) ∷ (100 ∷ 100 ∷ 100 ∷ []) ∷ (100 ∷ 95 ∷ 95 ∷ []) ∷ (100 ∷ 90 ∷ 80 ∷ []) ∷ [])  -- joint I
-    ∷ ((100 ∷ 100 ∷ 100 ∷ []) ∷ (100 ∷ 100 ∷ 100 ∷ []) ∷ (100 ∷ 95 ∷ 95 ∷ []) ∷ (100 ∷ 75 ∷ 70 ∷ []) ∷ [])  -- joint II
-    ∷ ((100 ∷ 100 ∷ 100 ∷ []) ∷ (100 ∷ 100 ∷ 100 ∷ []) ∷ (90 ∷ 90 ∷ 90 ∷ []) ∷ (60 ∷ 60 ∷ 60 ∷ []) ∷ [])  -- joints III and IV
-    ∷ []
+    ((100 ∷ 100 ∷ 100 ∷ []) ∷ (100 ∷ 100 ∷ 100 ∷ []) ∷ (100 ∷ 095 ∷ 095 ∷ []) ∷ (100 ∷ 090 ∷ 080 ∷ []) ∷ []) ∷  -- joint I
+    ((100 ∷ 100 ∷ 100 ∷ []) ∷ (100 ∷ 100 ∷ 100 ∷ []) ∷ (100 ∷ 095 ∷ 095 ∷ []) ∷ (100 ∷ 075 ∷ 070 ∷ []) ∷ []) ∷  -- joint II
+    ((100 ∷ 100 ∷ 100 ∷ []) ∷ (100 ∷ 100 ∷ 100 ∷ []) ∷ (090 ∷ 090 ∷ 090 ∷ []) ∷ (060 ∷ 060 ∷ 060 ∷ []) ∷ []) ∷  -- joints III and IV
+    []
 
 -- The tables of a position by the house's snow, from 0: "0 none, 1 for 1 m cleared, 2 for 2 m, 3 for 2.5 m" (document 02, request 1).
 abbrev pub topStorey : List (List (List ℕ))
@@ -125,3 +146,16 @@ otherStorey = otherStoreyNoSnow ∷ otherStorey1m ∷ otherStorey2m ∷ otherSto
 
 abbrev pub oneStorey : List (List (List (List ℕ)))
 oneStorey = oneStoreyNoSnow ∷ oneStorey1m ∷ oneStorey2m ∷ oneStorey2m50 ∷ []
+
+-- The columns of strength, from 0: 2.0, 3.0, 5.0 and 7.0 kN/m.
+abbrev pub at2 : ℕ
+at2 = 0
+
+abbrev pub at3 : ℕ
+at3 = 1
+
+abbrev pub at5 : ℕ
+at5 = 2
+
+abbrev pub at7 : ℕ
+at7 = 3

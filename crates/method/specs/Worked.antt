@@ -9,7 +9,8 @@ use Rattle.method.specs.declared.rows.Wall.{Wall}
 use Rattle.method.specs.declared.rows.Items.{Items}
 use Rattle.method.specs.declared.rows.Strengths.{Strengths}
 use Rattle.method.specs.declared.rows.Bands.{Bands}
-use Rattle.method.specs.Held.{jointFactor, wallShare}
+use Rattle.method.specs.JointTables.{at2, at3, at5, at7}
+use Rattle.method.specs.Held.{entry, below2, from2to3, from3to5, from5to7, above7, jointFactor, wallShare}
 use Rattle.method.specs.Required.{constant, narrowFactor, requiredStrength}
 use Rattle.method.specs.LayoutFactor.{band, floorType, layoutFactor, byFloorType}
 use Rattle.method.specs.Deterioration.{itemPoints, itemPointsUnderTen, points, fraction, deteriorationFactor}
@@ -46,6 +47,10 @@ strengths held required = record { held = held; required = required }
 -- and the bands of two ends.
 abbrev pub bands : ℕ → ℕ → Bands
 bands a b = record { a = a; b = b }
+
+-- The row of the upper storey of two without snow, joint IV: 0.7, 0.35, 0.25, 0.2.
+abbrev pub upperJointIV : ℕ → ℕ
+upperJointIV = entry 0 1 1 4
 
 -- P1 to P11, and 000's own worked joint factor (its section 4.2); then the further numbers.
 abbrev pub worked : List ℕ
@@ -157,6 +162,25 @@ worked =
     ∷ requiredStrength (snowyHouse 2 2 100 1 1 2) (housePart 1 1 1000) 100  -- an end of one storey in a house of two
     ∷ jointFactor (snowyHouse 1 2 100 1 1 4) 1 (wall 1 1 20 1000)  -- there is no snow 4: no entry, and no addition
     ∷ requiredStrength (snowyHouse 1 2 100 1 1 4) (housePart 1 1 4000) 100
+    ∷ upperJointIV at2  -- the upper storey of two, joint IV: its entries,
+    ∷ upperJointIV at3
+    ∷ upperJointIV at5
+    ∷ upperJointIV at7
+    ∷ below2 upperJointIV  -- its cases, each a tenth from the ends of its stretch,
+    ∷ from2to3 upperJointIV 21
+    ∷ from2to3 upperJointIV 29
+    ∷ from3to5 upperJointIV 31
+    ∷ from3to5 upperJointIV 49
+    ∷ from5to7 upperJointIV 51
+    ∷ from5to7 upperJointIV 69
+    ∷ above7 upperJointIV
+    ∷ jointFactor (house 2 1 100 1 1) 2 (wall 1 4 19 1000)  -- and its factors
+    ∷ jointFactor (house 2 1 100 1 1) 2 (wall 1 4 20 1000)
+    ∷ jointFactor (house 2 1 100 1 1) 2 (wall 1 4 21 1000)
+    ∷ jointFactor (house 2 1 100 1 1) 2 (wall 1 4 30 1000)
+    ∷ jointFactor (house 2 1 100 1 1) 2 (wall 1 4 31 1000)
+    ∷ jointFactor (house 2 1 100 1 1) 2 (wall 1 4 50 1000)
+    ∷ jointFactor (house 2 1 100 1 1) 2 (wall 1 4 70 1000)
     ∷ []
 
 abbrev pub expected : List ℕ
@@ -268,6 +292,25 @@ expected =
     ∷ 9_200_000_000
     ∷ 0  -- no such snow
     ∷ 16_000_000_000
+    ∷ 70  -- joint IV above: entries
+    ∷ 35
+    ∷ 25
+    ∷ 20
+    ∷ 70  -- cases
+    ∷ 67
+    ∷ 39
+    ∷ 35
+    ∷ 26
+    ∷ 25
+    ∷ 20
+    ∷ 20
+    ∷ 70  -- factors
+    ∷ 70
+    ∷ 67
+    ∷ 35
+    ∷ 35
+    ∷ 25
+    ∷ 20
     ∷ []
 
 -- The layout factors of every pair of a lower and a higher band (A is 0, E is 4), each by floor type 1/2/3, in the order of document 01's table,

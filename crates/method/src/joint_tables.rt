@@ -1,147 +1,134 @@
-// The factors that 000 prints for the joints of a wall's columns, in hundredths: a line a joint; from the
-// left the strengths 2.0, 3.0, 5.0 and 7.0 kN/m, in ② and ③ each for foundations I, II and III.
+// The factors that 000 prints for the joints of a wall's columns, laid out as its pages have them: a line a
+// joint, with the strengths over it and, in ② and ③, under each strength the three foundations. They are in
+// hundredths, each with three digits, so that it stands under its heading: 085 is the page's 0.85.
 ghost use mathlib.Core.Path.{_≡_};
-ghost use mathlib.Core.List.{[]};
+ghost use mathlib.Core.List.{[], map, flatten};
 ghost use Prim.Native.Nat.{_<_};
 ghost use lib.ListN.{getD};
 ghost use Rattle.method.specs.JointTables.{topStorey, otherStorey, oneStorey};
 
-// No snow: 000's table 4.3 (and its reference 2).
+// Table 4.3, and once more as reference 2: no snow.
 
 // ① The top storey of two or three.
+//   2.0  3.0  5.0  7.0 kN/m
 const TOP_STOREY_NO_SNOW: [[u8; 4]; 4] = [
     [100, 100, 100, 100], // joint I
-    [100, 80, 65, 50], // joint II
-    [70, 60, 45, 35], // joint III
-    [70, 35, 25, 20], // joint IV
+    [100, 080, 065, 050], // joint II
+    [070, 060, 045, 035], // joint III
+    [070, 035, 025, 020], // joint IV
 ];
 
 // ② The other storeys of two or three.
-const OTHER_STOREY_NO_SNOW: [[[u8; 3]; 4]; 4] = [
-    [[100, 100, 100], [100, 90, 80], [100, 85, 70], [100, 80, 60]], // joint I
-    [[100, 100, 100], [100, 90, 80], [90, 80, 70], [80, 70, 60]], // joint II
-    [[100, 100, 100], [80, 80, 80], [70, 70, 70], [60, 60, 60]], // joint III
-    [[100, 100, 100], [80, 80, 80], [70, 70, 70], [60, 60, 60]], // joint IV
+//   2.0            3.0            5.0            7.0 kN/m
+//   I    II   III  I    II   III  I    II   III  I    II   III foundation
+const OTHER_STOREY_NO_SNOW: [[u8; 12]; 4] = [
+    [100, 100, 100, 100, 090, 080, 100, 085, 070, 100, 080, 060], // joint I
+    [100, 100, 100, 100, 090, 080, 090, 080, 070, 080, 070, 060], // joint II
+    [100, 100, 100, 080, 080, 080, 070, 070, 070, 060, 060, 060], // joint III
+    [100, 100, 100, 080, 080, 080, 070, 070, 070, 060, 060, 060], // joint IV
 ];
 
 // ③ One storey.
-const ONE_STOREY_NO_SNOW: [[[u8; 3]; 4]; 3] = [
-    [[100, 85, 70], [100, 85, 70], [100, 80, 70], [100, 80, 70]], // joint I
-    [[100, 85, 70], [90, 75, 70], [85, 70, 65], [80, 70, 60]], // joint II
-    [[70, 70, 70], [60, 60, 60], [50, 50, 50], [30, 30, 30]], // joints III and IV
+//   2.0            3.0            5.0            7.0 kN/m
+//   I    II   III  I    II   III  I    II   III  I    II   III foundation
+const ONE_STOREY_NO_SNOW: [[u8; 12]; 3] = [
+    [100, 085, 070, 100, 085, 070, 100, 080, 070, 100, 080, 070], // joint I
+    [100, 085, 070, 090, 075, 070, 085, 070, 065, 080, 070, 060], // joint II
+    [070, 070, 070, 060, 060, 060, 050, 050, 050, 030, 030, 030], // joints III and IV
 ];
 
-// Snow of 1 m, where it is cleared off: 000's table 4.4.
+// Table 4.4: snow of 1 m, where it is cleared off.
 
 // ① The top storey of two or three.
+//   2.0  3.0  5.0  7.0 kN/m
 const TOP_STOREY_1M: [[u8; 4]; 4] = [
     [100, 100, 100, 100], // joint I
-    [100, 90, 85, 75], // joint II
-    [100, 75, 65, 55], // joint III
-    [100, 75, 60, 50], // joint IV
+    [100, 090, 085, 075], // joint II
+    [100, 075, 065, 055], // joint III
+    [100, 075, 060, 050], // joint IV
 ];
 
 // ② The other storeys of two or three.
-const OTHER_STOREY_1M: [[[u8; 3]; 4]; 4] = [
-    [
-        [100, 100, 100],
-        [100, 100, 100],
-        [100, 90, 85],
-        [100, 85, 75],
-    ], // joint I
-    [[100, 100, 100], [100, 100, 100], [95, 90, 85], [95, 85, 75]], // joint II
-    [[100, 100, 100], [100, 100, 100], [85, 85, 85], [75, 75, 75]], // joint III
-    [[100, 100, 100], [100, 100, 100], [85, 85, 85], [75, 75, 75]], // joint IV
+//   2.0            3.0            5.0            7.0 kN/m
+//   I    II   III  I    II   III  I    II   III  I    II   III foundation
+const OTHER_STOREY_1M: [[u8; 12]; 4] = [
+    [100, 100, 100, 100, 100, 100, 100, 090, 085, 100, 085, 075], // joint I
+    [100, 100, 100, 100, 100, 100, 095, 090, 085, 095, 085, 075], // joint II
+    [100, 100, 100, 100, 100, 100, 085, 085, 085, 075, 075, 075], // joint III
+    [100, 100, 100, 100, 100, 100, 085, 085, 085, 075, 075, 075], // joint IV
 ];
 
 // ③ One storey.
-const ONE_STOREY_1M: [[[u8; 3]; 4]; 3] = [
-    [[100, 100, 100], [100, 85, 75], [100, 80, 70], [100, 80, 70]], // joint I
-    [[100, 100, 100], [90, 80, 75], [85, 70, 65], [80, 70, 60]], // joint II
-    [[100, 100, 100], [75, 75, 75], [65, 65, 65], [35, 35, 35]], // joints III and IV
+//   2.0            3.0            5.0            7.0 kN/m
+//   I    II   III  I    II   III  I    II   III  I    II   III foundation
+const ONE_STOREY_1M: [[u8; 12]; 3] = [
+    [100, 100, 100, 100, 085, 075, 100, 080, 070, 100, 080, 070], // joint I
+    [100, 100, 100, 090, 080, 075, 085, 070, 065, 080, 070, 060], // joint II
+    [100, 100, 100, 075, 075, 075, 065, 065, 065, 035, 035, 035], // joints III and IV
 ];
 
-// Snow of 2 m, where it is not cleared off: 000's table 4.4.
+// Table 4.4: snow of 2 m, where it is not cleared off.
 
 // ① The top storey of two or three.
+//   2.0  3.0  5.0  7.0 kN/m
 const TOP_STOREY_2M: [[u8; 4]; 4] = [
     [100, 100, 100, 100], // joint I
-    [100, 95, 85, 80], // joint II
-    [100, 85, 75, 70], // joint III
-    [100, 85, 75, 70], // joint IV
+    [100, 095, 085, 080], // joint II
+    [100, 085, 075, 070], // joint III
+    [100, 085, 075, 070], // joint IV
 ];
 
 // ② The other storeys of two or three.
-const OTHER_STOREY_2M: [[[u8; 3]; 4]; 4] = [
-    [
-        [100, 100, 100],
-        [100, 100, 100],
-        [100, 95, 95],
-        [100, 95, 90],
-    ], // joint I
-    [
-        [100, 100, 100],
-        [100, 100, 100],
-        [100, 95, 95],
-        [100, 95, 90],
-    ], // joint II
-    [[100, 100, 100], [100, 100, 100], [95, 95, 95], [90, 90, 90]], // joint III
-    [[100, 100, 100], [100, 100, 100], [95, 95, 95], [90, 90, 90]], // joint IV
+//   2.0            3.0            5.0            7.0 kN/m
+//   I    II   III  I    II   III  I    II   III  I    II   III foundation
+const OTHER_STOREY_2M: [[u8; 12]; 4] = [
+    [100, 100, 100, 100, 100, 100, 100, 095, 095, 100, 095, 090], // joint I
+    [100, 100, 100, 100, 100, 100, 100, 095, 095, 100, 095, 090], // joint II
+    [100, 100, 100, 100, 100, 100, 095, 095, 095, 090, 090, 090], // joint III
+    [100, 100, 100, 100, 100, 100, 095, 095, 095, 090, 090, 090], // joint IV
 ];
 
 // ③ One storey.
-const ONE_STOREY_2M: [[[u8; 3]; 4]; 3] = [
-    [[100, 100, 100], [100, 90, 85], [100, 85, 75], [100, 85, 75]], // joint I
-    [[100, 100, 100], [95, 90, 85], [85, 80, 75], [80, 75, 70]], // joint II
-    [[100, 100, 100], [85, 85, 85], [80, 80, 75], [50, 50, 50]], // joints III and IV
+//   2.0            3.0            5.0            7.0 kN/m
+//   I    II   III  I    II   III  I    II   III  I    II   III foundation
+const ONE_STOREY_2M: [[u8; 12]; 3] = [
+    [100, 100, 100, 100, 090, 085, 100, 085, 075, 100, 085, 075], // joint I
+    [100, 100, 100, 095, 090, 085, 085, 080, 075, 080, 075, 070], // joint II
+    [100, 100, 100, 085, 085, 085, 080, 080, 075, 050, 050, 050], // joints III and IV
 ];
 
-// Snow of 2.5 m, where it is not cleared off: 000's table 4.4. Its ② is that of 2 m once more.
+// Table 4.4: snow of 2.5 m, where it is not cleared off. Its ② is that of 2 m once more.
 
 // ① The top storey of two or three.
+//   2.0  3.0  5.0  7.0 kN/m
 const TOP_STOREY_2M50: [[u8; 4]; 4] = [
     [100, 100, 100, 100], // joint I
-    [100, 95, 90, 85], // joint II
-    [100, 90, 80, 75], // joint III
-    [100, 90, 80, 75], // joint IV
+    [100, 095, 090, 085], // joint II
+    [100, 090, 080, 075], // joint III
+    [100, 090, 080, 075], // joint IV
 ];
 
 // ② The other storeys of two or three.
-const OTHER_STOREY_2M50: [[[u8; 3]; 4]; 4] = [
-    [
-        [100, 100, 100],
-        [100, 100, 100],
-        [100, 95, 95],
-        [100, 95, 90],
-    ], // joint I
-    [
-        [100, 100, 100],
-        [100, 100, 100],
-        [100, 95, 95],
-        [100, 95, 90],
-    ], // joint II
-    [[100, 100, 100], [100, 100, 100], [95, 95, 95], [90, 90, 90]], // joint III
-    [[100, 100, 100], [100, 100, 100], [95, 95, 95], [90, 90, 90]], // joint IV
+//   2.0            3.0            5.0            7.0 kN/m
+//   I    II   III  I    II   III  I    II   III  I    II   III foundation
+const OTHER_STOREY_2M50: [[u8; 12]; 4] = [
+    [100, 100, 100, 100, 100, 100, 100, 095, 095, 100, 095, 090], // joint I
+    [100, 100, 100, 100, 100, 100, 100, 095, 095, 100, 095, 090], // joint II
+    [100, 100, 100, 100, 100, 100, 095, 095, 095, 090, 090, 090], // joint III
+    [100, 100, 100, 100, 100, 100, 095, 095, 095, 090, 090, 090], // joint IV
 ];
 
 // ③ One storey.
-const ONE_STOREY_2M50: [[[u8; 3]; 4]; 3] = [
-    [
-        [100, 100, 100],
-        [100, 100, 100],
-        [100, 95, 95],
-        [100, 90, 80],
-    ], // joint I
-    [
-        [100, 100, 100],
-        [100, 100, 100],
-        [100, 95, 95],
-        [100, 75, 70],
-    ], // joint II
-    [[100, 100, 100], [100, 100, 100], [90, 90, 90], [60, 60, 60]], // joints III and IV
+//   2.0            3.0            5.0            7.0 kN/m
+//   I    II   III  I    II   III  I    II   III  I    II   III foundation
+const ONE_STOREY_2M50: [[u8; 12]; 3] = [
+    [100, 100, 100, 100, 100, 100, 100, 095, 095, 100, 090, 080], // joint I
+    [100, 100, 100, 100, 100, 100, 100, 095, 095, 100, 075, 070], // joint II
+    [100, 100, 100, 100, 100, 100, 090, 090, 090, 060, 060, 060], // joints III and IV
 ];
 
-// A position's table by the house's snow: 0 none, 1 for 1 m cleared, 2 for 2 m, 3 for 2.5 m.
+// A position's table by the house's snow: 0 none, 1 for 1 m cleared, 2 for 2 m, 3 for 2.5 m. Where it goes by
+// foundations too, the three entries of a strength follow one another in the joint's line.
 pub(crate) fn top_storey(snow: u32) -> [[u8; 4]; 4]
     requires { ⌜ snow < 4 ⌝ }
     ensures { λ r. ⌜ r ≡ getD topStorey snow [] ⌝ }
@@ -154,9 +141,9 @@ pub(crate) fn top_storey(snow: u32) -> [[u8; 4]; 4]
     }
 }
 
-pub(crate) fn other_storey(snow: u32) -> [[[u8; 3]; 4]; 4]
+pub(crate) fn other_storey(snow: u32) -> [[u8; 12]; 4]
     requires { ⌜ snow < 4 ⌝ }
-    ensures { λ r. ⌜ r ≡ getD otherStorey snow [] ⌝ }
+    ensures { λ r. ⌜ r ≡ map flatten (getD otherStorey snow []) ⌝ }
 {
     match snow {
         0 => OTHER_STOREY_NO_SNOW,
@@ -166,9 +153,9 @@ pub(crate) fn other_storey(snow: u32) -> [[[u8; 3]; 4]; 4]
     }
 }
 
-pub(crate) fn one_storey(snow: u32) -> [[[u8; 3]; 4]; 3]
+pub(crate) fn one_storey(snow: u32) -> [[u8; 12]; 3]
     requires { ⌜ snow < 4 ⌝ }
-    ensures { λ r. ⌜ r ≡ getD oneStorey snow [] ⌝ }
+    ensures { λ r. ⌜ r ≡ map flatten (getD oneStorey snow []) ⌝ }
 {
     match snow {
         0 => ONE_STOREY_NO_SNOW,

@@ -5,10 +5,19 @@ use crate::joint_tables::top_storey;
 use crate::rows::House;
 use crate::rows::Wall;
 ghost use mathlib.Core.Path.{_≡_};
-ghost use Prim.Native.Nat.{_<_, _≤_};
+ghost use Prim.Native.Nat.{_+_, _*_, _<_, _≤_};
 ghost use mathlib.Core.List.{[]};
 ghost use lib.ListN.{getD};
-ghost use Rattle.method.specs.Held.{position, foundationUsed, sharedRow, entry, entries, interpolated, rowFactor, jointFactor};
+ghost use Rattle.method.specs.Held.{position, foundationUsed, sharedRow, entry, entries, interpolated, below2, from2to3, from3to5, from5to7, above7, rowFactor, jointFactor};
+
+// The columns of strength.
+const AT_2: usize = 0; // 2.0 kN/m
+
+const AT_3: usize = 1; // 3.0 kN/m
+
+const AT_5: usize = 2; // 5.0 kN/m
+
+const AT_7: usize = 3; // 7.0 kN/m
 
 // Which of the three printed tables a storey takes.
 fn position(house: House, storey: u32) -> u32
@@ -47,12 +56,17 @@ fn shared_row(joint: u32) -> u32
     joint
 }
 
-// A row's entries: of the line of a joint the column of a foundation, counted from 0, at each strength.
-fn at_foundation(line: [[u8; 3]; 4], at: usize) -> [u8; 4]
+// A row's entries: of a joint's line, at each strength that of a foundation, counted from 0.
+fn at_foundation(line: [u8; 12], at: usize) -> [u8; 4]
     requires { ⌜ at < 3 ⌝ }
-    ensures { λ r. ⌜ r ≡ entries (λ column. getD (getD line column []) at 0) ⌝ }
+    ensures { λ r. ⌜ r ≡ entries (λ column. getD line (3 * column + at) 0) ⌝ }
 {
-    [line[0][at], line[1][at], line[2][at], line[3][at]]
+    [
+        line[3 * AT_2 + at],
+        line[3 * AT_3 + at],
+        line[3 * AT_5 + at],
+        line[3 * AT_7 + at],
+    ]
 }
 
 // The printed entries of a row at 2.0, 3.0, 5.0 and 7.0 kN/m; 0 where there is no such table, or no such
@@ -72,7 +86,7 @@ fn row(snow: u32, position: u32, foundation: u32, joint: u32) -> [u8; 4]
     if position == 1 {
         let table = top_storey(snow);
         let line = table[(joint - 1) as usize];
-        return [line[0], line[1], line[2], line[3]];
+        return [line[AT_2], line[AT_3], line[AT_5], line[AT_7]];
     }
     if foundation < 1 {
         return [0; 4];
@@ -94,7 +108,7 @@ fn interpolated(from: u32, to: u32, left: u8, right: u8, strength: u32) -> u32
     requires width { ⌜ from < to ⌝ }
     requires most { ⌜ to ≤ 70 ⌝ }
     requires above { ⌜ from ≤ strength ⌝ }
-    requires below { ⌜ strength < to ⌝ }
+    requires below { ⌜ strength ≤ to ⌝ }
     ensures { λ r. ⌜ r ≡ interpolated from to left right strength ⌝ }
 {
     let width = to - from;
@@ -102,23 +116,59 @@ fn interpolated(from: u32, to: u32, left: u8, right: u8, strength: u32) -> u32
     (2 * sum + width) / (2 * width)
 }
 
-// The factor of a strength by the entries of a row.
+// Below 2.0 kN/m: the entry at 2.0.
+fn below_2(row: [u8; 4]) -> u32
+    ensures { λ r. ⌜ r ≡ below2 (λ column. getD row column 0) ⌝ }
+{
+    row[AT_2] as u32
+}
+
+// From 2.0 to 3.0 kN/m: straight from the entry at 2.0 to that at 3.0.
+fn from_2_to_3(row: [u8; 4], strength: u32) -> u32
+    requires above { ⌜ 20 ≤ strength ⌝ }
+    requires below { ⌜ strength ≤ 30 ⌝ }
+    ensures { λ r. ⌜ r ≡ from2to3 (λ column. getD row column 0) strength ⌝ }
+{
+    interpolated(20, 30, row[AT_2], row[AT_3], strength)
+}
+
+// From 3.0 to 5.0 kN/m: straight from the entry at 3.0 to that at 5.0.
+fn from_3_to_5(row: [u8; 4], strength: u32) -> u32
+    requires above { ⌜ 30 ≤ strength ⌝ }
+    requires below { ⌜ strength ≤ 50 ⌝ }
+    ensures { λ r. ⌜ r ≡ from3to5 (λ column. getD row column 0) strength ⌝ }
+{
+    interpolated(30, 50, row[AT_3], row[AT_5], strength)
+}
+
+// From 5.0 to 7.0 kN/m: straight from the entry at 5.0 to that at 7.0.
+fn from_5_to_7(row: [u8; 4], strength: u32) -> u32
+    requires above { ⌜ 50 ≤ strength ⌝ }
+    requires below { ⌜ strength ≤ 70 ⌝ }
+    ensures { λ r. ⌜ r ≡ from5to7 (λ column. getD row column 0) strength ⌝ }
+{
+    interpolated(50, 70, row[AT_5], row[AT_7], strength)
+}
+
+// Above 7.0 kN/m: the entry at 7.0.
+fn above_7(row: [u8; 4]) -> u32
+    ensures { λ r. ⌜ r ≡ above7 (λ column. getD row column 0) ⌝ }
+{
+    row[AT_7] as u32
+}
+
+// The factor of a strength, in 0.1 kN/m, by the entries of a row, case by case. At 2.0, 3.0, 5.0 and 7.0
+// the cases on both sides give the printed entry (theorem `cases-meet`).
 fn row_factor(row: [u8; 4], strength: u32) -> u32
     ensures { λ r. ⌜ r ≡ rowFactor (λ column. getD row column 0) strength ⌝ }
 {
-    if strength < 20 {
-        return row[0] as u32;
+    match strength {
+        0..=19 => below_2(row),
+        20..=29 => from_2_to_3(row, strength),
+        30..=49 => from_3_to_5(row, strength),
+        50..=69 => from_5_to_7(row, strength),
+        70.. => above_7(row),
     }
-    if strength < 30 {
-        return interpolated(20, 30, row[0], row[1], strength);
-    }
-    if strength < 50 {
-        return interpolated(30, 50, row[1], row[2], strength);
-    }
-    if strength < 70 {
-        return interpolated(50, 70, row[2], row[3], strength);
-    }
-    row[3] as u32
 }
 
 // The joint factor of a solid wall, in hundredths; 0 where its table has no such entry.

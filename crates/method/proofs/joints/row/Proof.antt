@@ -73,7 +73,7 @@ returns-7 c =
     let at-table = c .before .before in
     let at-if7 = at-table .before in
     rw (c .at-foundation .ensures, at-table .other-storey .ensures)
-    (row-other _ _ _ _ (at-if7 .before .before .before .if4 .left) (omega arith) (at-if7 .if7 .taken) (omega arith))
+    (row-other _ _ _ _ (at-if7 .before .before .before .if4 .left) (omega arith) (omega arith) (at-if7 .if7 .taken) (omega arith))
 
 one-storey-requires : tie.Need-one-storey-requires
 one-storey-requires c κs = search needs
@@ -108,7 +108,7 @@ returns-8 c =
     let at-table = at-row .before in
     let at-if7 = at-table .before in
     rw (c .at-foundation2 .ensures, at-table .one-storey .ensures)
-    (row-one _ _ _ _ (at-if7 .before .before .before .if4 .left) (omega arith) (at-if7 .if7 .left) (at-row .shared-row .ensures) (line-some at-row))
+    (row-one _ _ _ _ (at-if7 .before .before .before .if4 .left) (omega arith) (omega arith) (at-if7 .if7 .left) (at-row .shared-row .ensures) (line-some at-row))
 
 pub row-spec : {M : Type 1} → statement M
 row-spec =
