@@ -6,7 +6,6 @@ use crate::rows::House;
 use crate::rows::Wall;
 ghost use mathlib.Core.Path.{_≡_};
 ghost use Prim.Native.Nat.{_+_, _*_, _<_, _≤_};
-ghost use mathlib.Core.List.{[]};
 ghost use lib.ListN.{getD};
 ghost use Rattle.method.specs.Held.{position, foundationUsed, sharedRow, entry, entries, interpolated, below2, from2to3, from3to5, from5to7, above7, rowFactor, jointFactor};
 
