@@ -1,5 +1,5 @@
--- The cases of a joint factor: at a printed strength those on both sides give the printed entry, and each holds up to both of its ends. Assumes
--- nothing.
+-- The cases of a joint factor: at a printed strength those on both sides give the printed entry, so each is the factor on the whole of its stretch.
+-- Assumes nothing.
 use mathlib.Core.Path.{_≡_, refl, sym, _∙_}
 use mathlib.Core.Bool.{cond}
 use Prim.Native.Nat.{ℕ, _+_, _-_, _*_, _/_, _<_, _≤_}
@@ -12,17 +12,17 @@ use Rattle.method.specs.JointTables.{at2, at3, at5, at7}
 use Rattle.method.specs.Held.{entry, interpolated, below2, from2to3, from3to5, from5to7, above7, rowFactor}
 
 -- An entry that is multiplied out and rounded is the entry.
-rounded : (entry width : ℕ) → 0 < width → (2 * (entry * width) + width) / (2 * width) ≡ entry
-rounded entry width some =
-    rw (mul-left-comm 2 entry width, mul-add-div-right {m = 2 * width} (omega arith) entry width, div-eq-of-lt {n = width} {m = 2 * width} (omega arith), add-zero)
+rounded : (value width : ℕ) → 0 < width → (2 * (value * width) + width) / (2 * width) ≡ value
+rounded value width some =
+    rw (mul-left-comm 2 value width, mul-add-div-right {m = 2 * width} (omega arith) value width, div-eq-of-lt {n = width} {m = 2 * width} (omega arith), add-zero)
 
 -- A straight line begins with the entry on its left and ends with that on its right.
 module _ (from to left right : ℕ) (width : from < to) where
-  pub line-begins : interpolated from to left right from ≡ left
+  line-begins : interpolated from to left right from ≡ left
   unfolding interpolated
   line-begins = rw (sub-self from, mul-zero right, add-zero) (rounded left (to - from) (omega arith))
 
-  pub line-ends : interpolated from to left right to ≡ right
+  line-ends : interpolated from to left right to ≡ right
   unfolding interpolated
   line-ends = rw (sub-self to, mul-zero left, zero-add) (rounded right (to - from) (omega arith))
 
@@ -65,7 +65,7 @@ up-to strength end {here} {next} most same = go (decLt strength end)
     go (yes less) = rw (lt-ltb strength end less)
     go (no not) = rw (le-ltb strength end (omega (arith, not))) (same (omega (arith, not)))
 
--- Each case is the factor from where it begins up to where the next one does.
+-- Each case is the factor on the whole of its stretch, the printed strengths at its ends included.
 module _ (row : ℕ → ℕ) (strength : ℕ) where
   pub in-below-2 : strength ≤ 20 → rowFactor row strength ≡ below2 row
   unfolding rowFactor

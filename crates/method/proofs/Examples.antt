@@ -33,14 +33,19 @@ cases-met : (below2 upperJointIV ≡ 70) × (from2to3 upperJointIV 20 ≡ 70)
 unfolding entry topEntry nth
 cases-met = cases-meet 0 1 1 4
 
--- and each case holds where the next begins.
-cases-held : (rowFactor upperJointIV 20 ≡ 70) × (rowFactor upperJointIV 30 ≡ 35) × (rowFactor upperJointIV 50 ≡ 25)
+-- and are the factor there.
+cases-held : (rowFactor upperJointIV 20 ≡ 70) × (rowFactor upperJointIV 20 ≡ 70)
+    × (rowFactor upperJointIV 30 ≡ 35) × (rowFactor upperJointIV 30 ≡ 35)
+    × (rowFactor upperJointIV 50 ≡ 25) × (rowFactor upperJointIV 50 ≡ 25)
     × (rowFactor upperJointIV 70 ≡ 20) × (rowFactor upperJointIV 70 ≡ 20)
 unfolding entry topEntry nth interpolated
 cases-held = (
   in-below-2 upperJointIV 20 (lit≤ tt),
+  in-2-to-3 upperJointIV 20 (lit≤ tt) (lit≤ tt),
   in-2-to-3 upperJointIV 30 (lit≤ tt) (lit≤ tt),
+  in-3-to-5 upperJointIV 30 (lit≤ tt) (lit≤ tt),
   in-3-to-5 upperJointIV 50 (lit≤ tt) (lit≤ tt),
+  in-5-to-7 upperJointIV 50 (lit≤ tt) (lit≤ tt),
   in-5-to-7 upperJointIV 70 (lit≤ tt) (lit≤ tt),
   in-above-7 upperJointIV 70 (lit≤ tt),
 )

@@ -11,7 +11,7 @@ use borrow.Author.Tests.{leb-true, ltb-true, ltb-false, eqb-false, le-leb, eq-eq
 use Rattle.method.specs.declared.rows.House.{House}
 use Rattle.method.specs.declared.rows.Wall.{Wall}
 use Rattle.method.specs.Printed.{nth}
-use Rattle.method.specs.JointTables.{topStorey, otherStorey, oneStorey}
+use Rattle.method.specs.JointTables.{topStorey, otherStorey, oneStorey, at2, at3, at5, at7}
 use Rattle.method.specs.Held.{position, foundationUsed, sharedRow, topEntry, entryIn, entry, entries, interpolated, rowFactor, jointFactor}
 use Rattle.method.proofs.Branches.{cond-most, cond-least, cond-same, cond-every}
 use Rattle.method.proofs.Tables.{nth-is, nth-none, and-true, every, getD-every, nth-every, small, short, full, getD-flatten}
@@ -121,7 +121,7 @@ module _ (snow position foundation joint : ℕ) where
 
 -- Rows whose entries are the same.
 entries-same : (one other : ℕ → ℕ) → ((column : ℕ) → one column ≡ other column) → entries one ≡ entries other
-entries-same one other same = λ i. same 0 i ∷ same 1 i ∷ same 2 i ∷ same 3 i ∷ []
+entries-same one other same = λ i. same at2 i ∷ same at3 i ∷ same at5 i ∷ same at7 i ∷ []
 
 -- What the entries of a row are, by the list of tables that has them; 0 where there are none.
 module _ (snow position foundation joint : ℕ) where
@@ -190,10 +190,10 @@ module _ (row : ℕ → ℕ) (most : (column : ℕ) → row column ≤ 100) (str
   row-most : rowFactor row strength ≤ 100
   unfolding rowFactor
   row-most =
-      cond-most (ltb strength 20) (λ e. most 0)
-      (λ above-20. cond-most (ltb strength 30) (stretch-most 20 30 0 1 above-20)
-      (λ above-30. cond-most (ltb strength 50) (stretch-most 30 50 1 2 above-30)
-      (λ above-50. cond-most (ltb strength 70) (stretch-most 50 70 2 3 above-50) (λ above-70. most 3))))
+      cond-most (ltb strength 20) (λ e. most at2)
+      (λ above-20. cond-most (ltb strength 30) (stretch-most 20 30 at2 at3 above-20)
+      (λ above-30. cond-most (ltb strength 50) (stretch-most 30 50 at3 at5 above-30)
+      (λ above-50. cond-most (ltb strength 70) (stretch-most 50 70 at5 at7 above-50) (λ above-70. most at7))))
 
 -- Once over every snow, position, foundation and joint, and so for every storey.
 pub row-factor-most : (snow position foundation joint strength : ℕ) → rowFactor (entry snow position foundation joint) strength ≤ 100

@@ -1,7 +1,7 @@
 -- Printed tables: an element by its number, and rules that hold throughout a table by one test that is computed. Assumes nothing.
 use mathlib.Core.Path.{_≡_, refl, sym, ap, subst, _∙_}
 use mathlib.Core.Bool.{Bool, true, false, not, _&&_, _||_}
-use mathlib.Core.List.{List, [], _∷_, _++_, map, flatten}
+use mathlib.Core.List.{List, [], _∷_, _++_, flatten}
 use Prim.Native.Nat.{ℕ, zero, suc, _+_, _-_, _*_, _<_, _≤_, zero-le}
 use native.Mathlib.Nat.{mul-suc}
 use native.Mathlib.Omega.{arith}
@@ -28,10 +28,6 @@ module _ {A : Type 0} (list : List A) where
 -- One of several tables, by a number that it is known to have.
 pub table-of : {A : Type 0} (tables : List (List A)) (n m : ℕ) → m ≡ n → getD tables n [] ≡ getD tables m []
 table-of tables n m same = ap (λ (k : ℕ). getD tables k []) (sym same)
-
--- The same with the parts of each of its lines one after the other.
-pub lines-of : {A : Type 0} (tables : List (List (List (List A)))) (n m : ℕ) → m ≡ n → map flatten (getD tables n []) ≡ map flatten (getD tables m [])
-lines-of tables n m same = ap (map flatten) (table-of tables n m same)
 
 -- Both of two tests.
 pub and-true : (a b : Bool) → a && b ≡ true → (a ≡ true) × (b ≡ true)

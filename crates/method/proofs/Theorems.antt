@@ -35,7 +35,8 @@ pub cases-meet : (snow position foundation joint : ℕ)
     × (from5to7 row 70 ≡ row at7) × (above7 row ≡ row at7)
 cases-meet = cases.cases-meet
 
--- Each case holds up to both of its ends, so it does not matter to which of its two cases a printed strength is counted.
+-- Each case is the factor on the whole of its stretch, the printed strengths at its ends included: it does not matter to which of its two cases such a
+-- strength is counted.
 pub case-by-case : (row : ℕ → ℕ) (strength : ℕ)
     → (strength ≤ 20 → rowFactor row strength ≡ below2 row)
     × (20 ≤ strength → strength ≤ 30 → rowFactor row strength ≡ from2to3 row strength)

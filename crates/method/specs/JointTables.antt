@@ -1,4 +1,4 @@
--- The factors that 000 prints for the joints of a wall's columns, as they are printed. Document 01, "Held strength", and document 02, request 1. Each
+-- The factors that 000 prints for the joints of a wall's columns, as they are printed. Document 01, "Held strength", and document 02, requests 1 and 2. Each
 -- is a line a joint, with the strengths over it and, in ② and ③, under each strength the three foundations. They are in hundredths, each with three
 -- digits, so that it stands under its heading: 085 is the page's 0.85.
 use mathlib.Core.List.{List, [], _∷_}
@@ -35,7 +35,7 @@ abbrev pub oneStoreyNoSnow : List (List (List ℕ))
 oneStoreyNoSnow =
     ((100 ∷ 085 ∷ 070 ∷ []) ∷ (100 ∷ 085 ∷ 070 ∷ []) ∷ (100 ∷ 080 ∷ 070 ∷ []) ∷ (100 ∷ 080 ∷ 070 ∷ []) ∷ []) ∷  -- joint I
     ((100 ∷ 085 ∷ 070 ∷ []) ∷ (090 ∷ 075 ∷ 070 ∷ []) ∷ (085 ∷ 070 ∷ 065 ∷ []) ∷ (080 ∷ 070 ∷ 060 ∷ []) ∷ []) ∷  -- joint II
-    ((070 ∷ 070 ∷ 070 ∷ []) ∷ (060 ∷ 060 ∷ 060 ∷ []) ∷ (050 ∷ 050 ∷ 050 ∷ []) ∷ (030 ∷ 030 ∷ 030 ∷ []) ∷ []) ∷  -- joints III and IV
+    ((070 ∷ 070 ∷ 070 ∷ []) ∷ (060 ∷ 060 ∷ 060 ∷ []) ∷ (050 ∷ 050 ∷ 050 ∷ []) ∷ (030 ∷ 030 ∷ 030 ∷ []) ∷ []) ∷  -- joint IV, and III
     []
 
 -- Snow of 1 m, where it is cleared off: 000's table 4.4.
@@ -68,7 +68,7 @@ abbrev pub oneStorey1m : List (List (List ℕ))
 oneStorey1m =
     ((100 ∷ 100 ∷ 100 ∷ []) ∷ (100 ∷ 085 ∷ 075 ∷ []) ∷ (100 ∷ 080 ∷ 070 ∷ []) ∷ (100 ∷ 080 ∷ 070 ∷ []) ∷ []) ∷  -- joint I
     ((100 ∷ 100 ∷ 100 ∷ []) ∷ (090 ∷ 080 ∷ 075 ∷ []) ∷ (085 ∷ 070 ∷ 065 ∷ []) ∷ (080 ∷ 070 ∷ 060 ∷ []) ∷ []) ∷  -- joint II
-    ((100 ∷ 100 ∷ 100 ∷ []) ∷ (075 ∷ 075 ∷ 075 ∷ []) ∷ (065 ∷ 065 ∷ 065 ∷ []) ∷ (035 ∷ 035 ∷ 035 ∷ []) ∷ []) ∷  -- joints III and IV
+    ((100 ∷ 100 ∷ 100 ∷ []) ∷ (075 ∷ 075 ∷ 075 ∷ []) ∷ (065 ∷ 065 ∷ 065 ∷ []) ∷ (035 ∷ 035 ∷ 035 ∷ []) ∷ []) ∷  -- joint IV, and III
     []
 
 -- Snow of 2 m, where it is not cleared off: 000's table 4.4.
@@ -101,7 +101,7 @@ abbrev pub oneStorey2m : List (List (List ℕ))
 oneStorey2m =
     ((100 ∷ 100 ∷ 100 ∷ []) ∷ (100 ∷ 090 ∷ 085 ∷ []) ∷ (100 ∷ 085 ∷ 075 ∷ []) ∷ (100 ∷ 085 ∷ 075 ∷ []) ∷ []) ∷  -- joint I
     ((100 ∷ 100 ∷ 100 ∷ []) ∷ (095 ∷ 090 ∷ 085 ∷ []) ∷ (085 ∷ 080 ∷ 075 ∷ []) ∷ (080 ∷ 075 ∷ 070 ∷ []) ∷ []) ∷  -- joint II
-    ((100 ∷ 100 ∷ 100 ∷ []) ∷ (085 ∷ 085 ∷ 085 ∷ []) ∷ (080 ∷ 080 ∷ 075 ∷ []) ∷ (050 ∷ 050 ∷ 050 ∷ []) ∷ []) ∷  -- joints III and IV
+    ((100 ∷ 100 ∷ 100 ∷ []) ∷ (085 ∷ 085 ∷ 085 ∷ []) ∷ (080 ∷ 080 ∷ 075 ∷ []) ∷ (050 ∷ 050 ∷ 050 ∷ []) ∷ []) ∷  -- joint IV, and III
     []
 
 -- Snow of 2.5 m, where it is not cleared off: 000's table 4.4. Its ② is that of 2 m once more.
@@ -134,7 +134,7 @@ abbrev pub oneStorey2m50 : List (List (List ℕ))
 oneStorey2m50 =
     ((100 ∷ 100 ∷ 100 ∷ []) ∷ (100 ∷ 100 ∷ 100 ∷ []) ∷ (100 ∷ 095 ∷ 095 ∷ []) ∷ (100 ∷ 090 ∷ 080 ∷ []) ∷ []) ∷  -- joint I
     ((100 ∷ 100 ∷ 100 ∷ []) ∷ (100 ∷ 100 ∷ 100 ∷ []) ∷ (100 ∷ 095 ∷ 095 ∷ []) ∷ (100 ∷ 075 ∷ 070 ∷ []) ∷ []) ∷  -- joint II
-    ((100 ∷ 100 ∷ 100 ∷ []) ∷ (100 ∷ 100 ∷ 100 ∷ []) ∷ (090 ∷ 090 ∷ 090 ∷ []) ∷ (060 ∷ 060 ∷ 060 ∷ []) ∷ []) ∷  -- joints III and IV
+    ((100 ∷ 100 ∷ 100 ∷ []) ∷ (100 ∷ 100 ∷ 100 ∷ []) ∷ (090 ∷ 090 ∷ 090 ∷ []) ∷ (060 ∷ 060 ∷ 060 ∷ []) ∷ []) ∷  -- joint IV, and III
     []
 
 -- The tables of a position by the house's snow, from 0: "0 none, 1 for 1 m cleared, 2 for 2 m, 3 for 2.5 m" (document 02, request 1).

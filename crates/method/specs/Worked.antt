@@ -166,12 +166,13 @@ worked =
     ∷ upperJointIV at3
     ∷ upperJointIV at5
     ∷ upperJointIV at7
-    ∷ below2 upperJointIV  -- its cases, each a tenth from the ends of its stretch,
+    ∷ below2 upperJointIV  -- its cases, a tenth from the ends of each stretch, and half way through the last,
     ∷ from2to3 upperJointIV 21
     ∷ from2to3 upperJointIV 29
     ∷ from3to5 upperJointIV 31
     ∷ from3to5 upperJointIV 49
     ∷ from5to7 upperJointIV 51
+    ∷ from5to7 upperJointIV 60
     ∷ from5to7 upperJointIV 69
     ∷ above7 upperJointIV
     ∷ jointFactor (house 2 1 100 1 1) 2 (wall 1 4 19 1000)  -- and its factors
@@ -302,6 +303,7 @@ expected =
     ∷ 35
     ∷ 26
     ∷ 25
+    ∷ 23
     ∷ 20
     ∷ 20
     ∷ 70  -- factors

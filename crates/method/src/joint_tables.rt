@@ -34,7 +34,7 @@ const OTHER_STOREY_NO_SNOW: [[u8; 12]; 4] = [
 const ONE_STOREY_NO_SNOW: [[u8; 12]; 3] = [
     [100, 085, 070, 100, 085, 070, 100, 080, 070, 100, 080, 070], // joint I
     [100, 085, 070, 090, 075, 070, 085, 070, 065, 080, 070, 060], // joint II
-    [070, 070, 070, 060, 060, 060, 050, 050, 050, 030, 030, 030], // joints III and IV
+    [070, 070, 070, 060, 060, 060, 050, 050, 050, 030, 030, 030], // joint IV, and III
 ];
 
 // Table 4.4: snow of 1 m, where it is cleared off.
@@ -64,7 +64,7 @@ const OTHER_STOREY_1M: [[u8; 12]; 4] = [
 const ONE_STOREY_1M: [[u8; 12]; 3] = [
     [100, 100, 100, 100, 085, 075, 100, 080, 070, 100, 080, 070], // joint I
     [100, 100, 100, 090, 080, 075, 085, 070, 065, 080, 070, 060], // joint II
-    [100, 100, 100, 075, 075, 075, 065, 065, 065, 035, 035, 035], // joints III and IV
+    [100, 100, 100, 075, 075, 075, 065, 065, 065, 035, 035, 035], // joint IV, and III
 ];
 
 // Table 4.4: snow of 2 m, where it is not cleared off.
@@ -94,7 +94,7 @@ const OTHER_STOREY_2M: [[u8; 12]; 4] = [
 const ONE_STOREY_2M: [[u8; 12]; 3] = [
     [100, 100, 100, 100, 090, 085, 100, 085, 075, 100, 085, 075], // joint I
     [100, 100, 100, 095, 090, 085, 085, 080, 075, 080, 075, 070], // joint II
-    [100, 100, 100, 085, 085, 085, 080, 080, 075, 050, 050, 050], // joints III and IV
+    [100, 100, 100, 085, 085, 085, 080, 080, 075, 050, 050, 050], // joint IV, and III
 ];
 
 // Table 4.4: snow of 2.5 m, where it is not cleared off. Its ② is that of 2 m once more.
@@ -124,7 +124,7 @@ const OTHER_STOREY_2M50: [[u8; 12]; 4] = [
 const ONE_STOREY_2M50: [[u8; 12]; 3] = [
     [100, 100, 100, 100, 100, 100, 100, 095, 095, 100, 090, 080], // joint I
     [100, 100, 100, 100, 100, 100, 100, 095, 095, 100, 075, 070], // joint II
-    [100, 100, 100, 100, 100, 100, 090, 090, 090, 060, 060, 060], // joints III and IV
+    [100, 100, 100, 100, 100, 100, 090, 090, 090, 060, 060, 060], // joint IV, and III
 ];
 
 // A position's table by the house's snow: 0 none, 1 for 1 m cleared, 2 for 2 m, 3 for 2.5 m. Where it goes by

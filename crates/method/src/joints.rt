@@ -55,7 +55,7 @@ fn shared_row(joint: u32) -> u32
     joint
 }
 
-// A row's entries: of a joint's line, at each strength that of a foundation, counted from 0.
+// A row's entries: of a joint's line the four of one foundation, 0 for I, 1 for II, 2 for III.
 fn at_foundation(line: [u8; 12], at: usize) -> [u8; 4]
     requires { ⌜ at < 3 ⌝ }
     ensures { λ r. ⌜ r ≡ entries (λ column. getD line (3 * column + at) 0) ⌝ }
