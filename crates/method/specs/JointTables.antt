@@ -1,6 +1,6 @@
--- The factors that 000 prints for the joints of a wall's columns, as they are printed. Document 01, "Held strength", and document 02, requests 1 and 2. Each
--- is a line a joint, with the strengths over it and, in ② and ③, under each strength the three foundations. They are in hundredths, each with three
--- digits, so that it stands under its heading: 085 is the page's 0.85.
+-- The factors that 000 prints for the joints of a wall's columns, as they are printed. Document 01, "Held strength", and document 02, requests 1 and
+-- 2. Each is a line a joint, with the strengths over it and, in ② and ③, under each strength the three foundations. They are in hundredths, each with
+-- three digits, so that it stands under its heading: 085 is the page's 0.85.
 use mathlib.Core.List.{List, [], _∷_}
 use Prim.Native.Nat.{ℕ}
 
