@@ -89,3 +89,12 @@ module _ (row : ℕ → ℕ) (strength : ℕ) where
   pub in-above-7 : 70 ≤ strength → rowFactor row strength ≡ above7 row
   unfolding rowFactor
   in-above-7 above = rw (le-ltb strength 20 (omega arith), le-ltb strength 30 (omega arith), le-ltb strength 50 (omega arith), le-ltb strength 70 above)
+
+-- The five together.
+pub case-by-case : (row : ℕ → ℕ) (strength : ℕ)
+    → (strength ≤ 20 → rowFactor row strength ≡ below2 row)
+    × (20 ≤ strength → strength ≤ 30 → rowFactor row strength ≡ from2to3 row strength)
+    × (30 ≤ strength → strength ≤ 50 → rowFactor row strength ≡ from3to5 row strength)
+    × (50 ≤ strength → strength ≤ 70 → rowFactor row strength ≡ from5to7 row strength)
+    × (70 ≤ strength → rowFactor row strength ≡ above7 row)
+case-by-case row strength = (in-below-2 row strength, in-2-to-3 row strength, in-3-to-5 row strength, in-5-to-7 row strength, in-above-7 row strength)

@@ -10,7 +10,7 @@ use Rattle.method.specs.LayoutFactor.{reached, band, floorType, layoutFa
 use Rattle.method.specs.Deterioration.{points, fraction, countedMarks, factorOf, deteriorationFactor}
 use Rattle.method.specs.Score.{score, cappedScore, verdict}
 use Rattle.method.specs.Worked.{upperJointIV, snowyHouse, house, housePart, items, strengths, bands, worked, expected, layoutTable, documentTable}
-use Rattle.method.proofs.Cases.{cases-meet, in-below-2, in-2-to-3, in-3-to-5, in-5-to-7, in-above-7}
+use Rattle.method.proofs.Cases.{cases-meet, case-by-case}
 use Rattle.method.proofs.Requirements.{required-rises}
 use Rattle.method.proofs.Bands.{band-falls, layout-falls}
 use Rattle.method.proofs.Fractions.{deterioration-falls}
@@ -33,22 +33,36 @@ cases-met : (below2 upperJointIV ≡ 70) × (from2to3 upperJointIV 20 ≡ 70)
 unfolding entry topEntry nth
 cases-met = cases-meet 0 1 1 4
 
--- and are the factor there.
-cases-held : (rowFactor upperJointIV 20 ≡ 70) × (rowFactor upperJointIV 20 ≡ 70)
+-- so they do in a row of another snow, position, foundation and joint, 2 m, one storey, foundation III, joint II: 1.0, 0.85, 0.75 and 0.7,
+cases-met-in-snow : let row = entry 2 3 3 2 in
+    (below2 row ≡ 100) × (from2to3 row 20 ≡ 100)
+    × (from2to3 row 30 ≡ 85) × (from3to5 row 30 ≡ 85)
+    × (from3to5 row 50 ≡ 75) × (from5to7 row 50 ≡ 75)
+    × (from5to7 row 70 ≡ 70) × (above7 row ≡ 70)
+unfolding entry entryIn sharedRow nth
+cases-met-in-snow = cases-meet 2 3 3 2
+
+-- and they are the factor there, and also a tenth further into the first case and the last, and half way through a stretch of that other row.
+cases-held : (rowFactor upperJointIV 19 ≡ 70) × (rowFactor upperJointIV 20 ≡ 70) × (rowFactor upperJointIV 20 ≡ 70)
     × (rowFactor upperJointIV 30 ≡ 35) × (rowFactor upperJointIV 30 ≡ 35)
     × (rowFactor upperJointIV 50 ≡ 25) × (rowFactor upperJointIV 50 ≡ 25)
-    × (rowFactor upperJointIV 70 ≡ 20) × (rowFactor upperJointIV 70 ≡ 20)
-unfolding entry topEntry nth interpolated
-cases-held = (
-  in-below-2 upperJointIV 20 (lit≤ tt),
-  in-2-to-3 upperJointIV 20 (lit≤ tt) (lit≤ tt),
-  in-2-to-3 upperJointIV 30 (lit≤ tt) (lit≤ tt),
-  in-3-to-5 upperJointIV 30 (lit≤ tt) (lit≤ tt),
-  in-3-to-5 upperJointIV 50 (lit≤ tt) (lit≤ tt),
-  in-5-to-7 upperJointIV 50 (lit≤ tt) (lit≤ tt),
-  in-5-to-7 upperJointIV 70 (lit≤ tt) (lit≤ tt),
-  in-above-7 upperJointIV 70 (lit≤ tt),
-)
+    × (rowFactor upperJointIV 70 ≡ 20) × (rowFactor upperJointIV 70 ≡ 20) × (rowFactor upperJointIV 71 ≡ 20)
+    × (rowFactor (entry 2 3 3 2) 60 ≡ 73)
+unfolding entry topEntry entryIn sharedRow nth interpolated
+cases-held =
+    let at = case-by-case upperJointIV in (
+      at 19 .0 (lit≤ tt),
+      at 20 .0 (lit≤ tt),
+      at 20 .1 (lit≤ tt) (lit≤ tt),
+      at 30 .1 (lit≤ tt) (lit≤ tt),
+      at 30 .2 (lit≤ tt) (lit≤ tt),
+      at 50 .2 (lit≤ tt) (lit≤ tt),
+      at 50 .3 (lit≤ tt) (lit≤ tt),
+      at 70 .3 (lit≤ tt) (lit≤ tt),
+      at 70 .4 (lit≤ tt),
+      at 71 .4 (lit≤ tt),
+      case-by-case (entry 2 3 3 2) 60 .3 (lit≤ tt) (lit≤ tt),
+    )
 
 -- Each law that compares, at numbers that compute: a further premise, a turned conclusion or another number would not fit here.
 

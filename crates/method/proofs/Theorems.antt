@@ -43,8 +43,7 @@ pub case-by-case : (row : ℕ → ℕ) (strength : ℕ)
     × (30 ≤ strength → strength ≤ 50 → rowFactor row strength ≡ from3to5 row strength)
     × (50 ≤ strength → strength ≤ 70 → rowFactor row strength ≡ from5to7 row strength)
     × (70 ≤ strength → rowFactor row strength ≡ above7 row)
-case-by-case row strength =
-    (cases.in-below-2 row strength, cases.in-2-to-3 row strength, cases.in-3-to-5 row strength, cases.in-5-to-7 row strength, cases.in-above-7 row strength)
+case-by-case = cases.case-by-case
 
 -- Layout factor. Document 01's table, by lower and higher band (A is 0, E is 4) and by floor type 1/2/3, is what the layout factor gives.
 pub document-table : layoutTable ≡ documentTable
