@@ -1,4 +1,4 @@
--- The cases of a joint factor: at a printed strength those on both sides give the printed entry, so each is the factor on the whole of its stretch.
+-- The cases of a joint factor: at a printed strength those on both sides give the entry, so each is the factor on the whole of its stretch.
 -- Assumes nothing.
 use mathlib.Core.Path.{_≡_, refl, sym, _∙_}
 use mathlib.Core.Bool.{cond}
@@ -9,7 +9,7 @@ use native.Mathlib.Decide.{decLt}
 use lib.Dec.{ltb, lit<}
 use borrow.Author.Tests.{lt-ltb, le-ltb}
 use Rattle.method.specs.JointTables.{at2, at3, at5, at7}
-use Rattle.method.specs.Held.{entry, interpolated, below2, from2to3, from3to5, from5to7, above7, rowFactor}
+use Rattle.method.specs.Held.{interpolated, below2, from2to3, from3to5, from5to7, above7, rowFactor}
 
 -- An entry that is multiplied out and rounded is the entry.
 rounded : (value width : ℕ) → 0 < width → (2 * (value * width) + width) / (2 * width) ≡ value
@@ -26,36 +26,23 @@ module _ (from to left right : ℕ) (width : from < to) where
   unfolding interpolated
   line-ends = rw (sub-self to, mul-zero left, zero-add) (rounded right (to - from) (omega arith))
 
--- So the three stretches of any row do.
-module _ (row : ℕ → ℕ) where
-  from-2 : from2to3 row 20 ≡ row at2
-  from-2 = line-begins 20 30 (row at2) (row at3) (lit< tt)
-
-  to-3 : from2to3 row 30 ≡ row at3
-  to-3 = line-ends 20 30 (row at2) (row at3) (lit< tt)
-
-  from-3 : from3to5 row 30 ≡ row at3
-  from-3 = line-begins 30 50 (row at3) (row at5) (lit< tt)
-
-  to-5 : from3to5 row 50 ≡ row at5
-  to-5 = line-ends 30 50 (row at3) (row at5) (lit< tt)
-
-  from-5 : from5to7 row 50 ≡ row at5
-  from-5 = line-begins 50 70 (row at5) (row at7) (lit< tt)
-
-  to-7 : from5to7 row 70 ≡ row at7
-  to-7 = line-ends 50 70 (row at5) (row at7) (lit< tt)
-
--- The theorem, over the tables.
-pub cases-meet : (snow position foundation joint : ℕ)
-    → let row = entry snow position foundation joint in
-    (below2 row ≡ row at2) × (from2to3 row 20 ≡ row at2)
+-- So at 2.0, 3.0, 5.0 and 7.0 the cases on both sides give the entry there, of any row.
+pub meet : (row : ℕ → ℕ)
+    → (below2 row ≡ row at2) × (from2to3 row 20 ≡ row at2)
     × (from2to3 row 30 ≡ row at3) × (from3to5 row 30 ≡ row at3)
     × (from3to5 row 50 ≡ row at5) × (from5to7 row 50 ≡ row at5)
     × (from5to7 row 70 ≡ row at7) × (above7 row ≡ row at7)
-cases-meet snow position foundation joint =
-    let row = entry snow position foundation joint in
-    (refl, from-2 row, to-3 row, from-3 row, to-5 row, from-5 row, to-7 row, refl)
+meet row =
+    (
+      refl,
+      line-begins 20 30 (row at2) (row at3) (lit< tt),
+      line-ends 20 30 (row at2) (row at3) (lit< tt),
+      line-begins 30 50 (row at3) (row at5) (lit< tt),
+      line-ends 30 50 (row at3) (row at5) (lit< tt),
+      line-begins 50 70 (row at5) (row at7) (lit< tt),
+      line-ends 50 70 (row at5) (row at7) (lit< tt),
+      refl,
+    )
 
 -- A case up to its end, where the next one gives the same.
 up-to : (strength end : ℕ) {here next : ℕ} → strength ≤ end → (strength ≡ end → next ≡ here) → cond (ltb strength end) here next ≡ here
@@ -66,35 +53,22 @@ up-to strength end {here} {next} most same = go (decLt strength end)
     go (no not) = rw (le-ltb strength end (omega (arith, not))) (same (omega (arith, not)))
 
 -- Each case is the factor on the whole of its stretch, the printed strengths at its ends included.
-module _ (row : ℕ → ℕ) (strength : ℕ) where
-  pub in-below-2 : strength ≤ 20 → rowFactor row strength ≡ below2 row
-  unfolding rowFactor
-  in-below-2 below = up-to strength 20 below (λ e. rw e (from-2 row))
-
-  pub in-2-to-3 : 20 ≤ strength → strength ≤ 30 → rowFactor row strength ≡ from2to3 row strength
-  unfolding rowFactor
-  in-2-to-3 above below = rw (le-ltb strength 20 above) (up-to strength 30 below (λ e. rw e (from-3 row ∙ sym (to-3 row))))
-
-  pub in-3-to-5 : 30 ≤ strength → strength ≤ 50 → rowFactor row strength ≡ from3to5 row strength
-  unfolding rowFactor
-  in-3-to-5 above below =
-      rw (le-ltb strength 20 (omega arith), le-ltb strength 30 above) (up-to strength 50 below (λ e. rw e (from-5 row ∙ sym (to-5 row))))
-
-  pub in-5-to-7 : 50 ≤ strength → strength ≤ 70 → rowFactor row strength ≡ from5to7 row strength
-  unfolding rowFactor
-  in-5-to-7 above below =
-      rw (le-ltb strength 20 (omega arith), le-ltb strength 30 (omega arith), le-ltb strength 50 above)
-      (up-to strength 70 below (λ e. rw e (sym (to-7 row))))
-
-  pub in-above-7 : 70 ≤ strength → rowFactor row strength ≡ above7 row
-  unfolding rowFactor
-  in-above-7 above = rw (le-ltb strength 20 (omega arith), le-ltb strength 30 (omega arith), le-ltb strength 50 (omega arith), le-ltb strength 70 above)
-
--- The five together.
 pub case-by-case : (row : ℕ → ℕ) (strength : ℕ)
     → (strength ≤ 20 → rowFactor row strength ≡ below2 row)
     × (20 ≤ strength → strength ≤ 30 → rowFactor row strength ≡ from2to3 row strength)
     × (30 ≤ strength → strength ≤ 50 → rowFactor row strength ≡ from3to5 row strength)
     × (50 ≤ strength → strength ≤ 70 → rowFactor row strength ≡ from5to7 row strength)
     × (70 ≤ strength → rowFactor row strength ≡ above7 row)
-case-by-case row strength = (in-below-2 row strength, in-2-to-3 row strength, in-3-to-5 row strength, in-5-to-7 row strength, in-above-7 row strength)
+unfolding rowFactor
+case-by-case row strength =
+    let met = meet row in (
+      λ below. up-to strength 20 below (λ e. rw e (met .1)),
+      λ above below. rw (le-ltb strength 20 above) (up-to strength 30 below (λ e. rw e (met .3 ∙ sym (met .2)))),
+      λ above below.
+          rw (le-ltb strength 20 (omega arith), le-ltb strength 30 above) (up-to strength 50 below (λ e. rw e (met .5 ∙ sym (met .4)))),
+      λ above below.
+          rw (le-ltb strength 20 (omega arith), le-ltb strength 30 (omega arith), le-ltb strength 50 above)
+          (up-to strength 70 below (λ e. rw e (sym (met .6)))),
+      λ above.
+          rw (le-ltb strength 20 (omega arith), le-ltb strength 30 (omega arith), le-ltb strength 50 (omega arith), le-ltb strength 70 above),
+    )

@@ -1,4 +1,4 @@
--- The laws about the method's definitions that other crates cite, and its theorems on one page.
+-- The laws about the method's definitions that other crates cite, its theorems on one page, and these used.
 pub mod Branches
 pub mod Products
 pub mod Tables
@@ -12,3 +12,4 @@ pub mod Fractions
 pub mod Comparisons
 pub mod Examples
 pub mod Theorems
+pub mod Witnesses

@@ -33,7 +33,7 @@ pub cases-meet : (snow position foundation joint : ℕ)
     × (from2to3 row 30 ≡ row at3) × (from3to5 row 30 ≡ row at3)
     × (from3to5 row 50 ≡ row at5) × (from5to7 row 50 ≡ row at5)
     × (from5to7 row 70 ≡ row at7) × (above7 row ≡ row at7)
-cases-meet = cases.cases-meet
+cases-meet snow position foundation joint = cases.meet (entry snow position foundation joint)
 
 -- Each case is the factor on the whole of its stretch, the printed strengths at its ends included: it does not matter to which of its two cases such a
 -- strength is counted.
