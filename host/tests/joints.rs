@@ -5,9 +5,6 @@ use girderbasil_host::model::survey::House;
 use girderbasil_host::model::{self, held};
 use girderbasil_host::{LINE, MOST_REPORT_BYTES, library};
 
-/// The most of a solid wall's strength that counts, in 0.1 kN/m.
-const MOST_COUNTED: u32 = 100;
-
 /// A house with one solid wall in each storey and direction. A wall is 10 m long, so that its held strength is printed as
 /// what counts of its strength × its joint factor in hundredths.
 fn table_of(house: &House, joint: u32, strength: u32) -> Vec<u32> {
@@ -54,7 +51,7 @@ fn factor_shown(report: &[u8], storey: u32, strength: u32) -> u32 {
     let line = &report[(storey as usize - 1) * 2 * LINE..];
     let held = std::str::from_utf8(&line[24..32]).expect("it is text");
     let held: u32 = held.trim().parse().expect("it is a number");
-    let counted = strength.min(MOST_COUNTED);
+    let counted = strength.min(held::MOST_STRENGTH);
     assert_eq!(held % counted, 0);
     held / counted
 }

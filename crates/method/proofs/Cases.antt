@@ -32,17 +32,16 @@ pub meet : (row : ℕ → ℕ)
     × (from2to3 row 30 ≡ row at3) × (from3to5 row 30 ≡ row at3)
     × (from3to5 row 50 ≡ row at5) × (from5to7 row 50 ≡ row at5)
     × (from5to7 row 70 ≡ row at7) × (above7 row ≡ row at7)
-meet row =
-    (
-      refl,
-      line-begins 20 30 (row at2) (row at3) (lit< tt),
-      line-ends 20 30 (row at2) (row at3) (lit< tt),
-      line-begins 30 50 (row at3) (row at5) (lit< tt),
-      line-ends 30 50 (row at3) (row at5) (lit< tt),
-      line-begins 50 70 (row at5) (row at7) (lit< tt),
-      line-ends 50 70 (row at5) (row at7) (lit< tt),
-      refl,
-    )
+meet row = (
+  refl,
+  line-begins 20 30 (row at2) (row at3) (lit< tt),
+  line-ends 20 30 (row at2) (row at3) (lit< tt),
+  line-begins 30 50 (row at3) (row at5) (lit< tt),
+  line-ends 30 50 (row at3) (row at5) (lit< tt),
+  line-begins 50 70 (row at5) (row at7) (lit< tt),
+  line-ends 50 70 (row at5) (row at7) (lit< tt),
+  refl,
+)
 
 -- A case up to its end, where the next one gives the same.
 up-to : (strength end : ℕ) {here next : ℕ} → strength ≤ end → (strength ≡ end → next ≡ here) → cond (ltb strength end) here next ≡ here

@@ -101,7 +101,7 @@ static JOINT_FACTORS: [JointFactors; 4] = [
 const STRENGTHS: [u32; 4] = [20, 30, 50, 70];
 
 /// The most strength that counts, in 0.1 kN/m.
-const MOST_STRENGTH: u32 = 100;
+pub const MOST_STRENGTH: u32 = 100;
 
 /// What openings count for a metre, in 0.1 kN/m, and the most length that counts, in mm.
 const WINDOW: u32 = 6;
