@@ -1,5 +1,5 @@
 -- The limits, and refusal 1. Document 01: "nothing lent, a length that isn't a multiple of 65 bytes (table: of 8 numbers), or over 311 lines or
--- rows".
+-- rows"; document 02, request 3: "the longest sheet gains a line".
 use mathlib.Core.Path.{_≡_}
 use mathlib.Core.Bool.{cond}
 use Prim.Native.Nat.{ℕ, _+_, _*_, _/_, _%_, _<_, _≤_}
@@ -9,10 +9,10 @@ use lib.Dec.{eqb, leb}
 abbrev pub mostWalls : ℕ
 mostWalls = 300
 
--- The most lines of a sheet, and the most rows of a table: the house's row, three rows of storeys, six rows of ends, the walls, the parts row.
--- "A sheet has at most 311 lines."
+-- The most lines of a sheet, and the most rows of a table: the house's row, three rows of storeys, six rows of ends, the walls, the parts row, the
+-- dates row. "A sheet has at most 311 lines", and with the dates row (document 02, request 3) one more.
 abbrev pub mostRows : ℕ
-mostRows = 1 + 3 + 6 + mostWalls + 1
+mostRows = 1 + 3 + 6 + mostWalls + 1 + 1
 
 -- How many lines or rows of `unit` elements a length holds; 0 where refusal 1 is due.
 unfoldable pub rowsIn : ℕ → ℕ → ℕ

@@ -55,3 +55,10 @@ no-parts = 8
 
 abbrev pub lent-space-short : ℕ
 lent-space-short = 9
+
+-- And document 02's, request 3: "10 no such day", "11 a date before the one to its left".
+abbrev pub no-such-day : ℕ
+no-such-day = 10
+
+abbrev pub dates-out-of-order : ℕ
+dates-out-of-order = 11

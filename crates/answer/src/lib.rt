@@ -37,14 +37,21 @@ pub const NO_PARTS: u32 = 8;
 // Lent space short.
 pub const LENT_SPACE_SHORT: u32 = 9;
 
+// And document 02's, request 3:
+
+// No such day.
+pub const NO_SUCH_DAY: u32 = 10;
+// Dates out of order: one is before the one to its left.
+pub const DATES_OUT_OF_ORDER: u32 = 11;
+
 // How many numbers a row of a table has.
 pub const ROW: usize = 8;
 
 // The most walls of a house.
 pub const MOST_WALLS: usize = 300;
 // The most lines of a sheet, and the most rows of a table: the house's row, three rows of storeys, six
-// rows of ends, the walls, the parts row.
-pub const MOST_ROWS: usize = 1 + 3 + 6 + MOST_WALLS + 1;
+// rows of ends, the walls, the parts row, the dates row.
+pub const MOST_ROWS: usize = 1 + 3 + 6 + MOST_WALLS + 1 + 1;
 // The numbers of the longest table.
 pub const MOST_NUMBERS: usize = MOST_ROWS * ROW;
 

@@ -1,5 +1,5 @@
 -- What scoring answers. Document 01: "scoring has its record in place of the count, all 0 when refused"; "The library answers with a record of
--- up to six scores with the verdict."
+-- up to six scores with the verdict." Document 02, request 3: it "also says whether work started by 31 May 1981".
 use mathlib.Core.Bool.{Bool, true, false, cond}
 use mathlib.Core.List.{List, [], _∷_}
 use Prim.Native.Nat.{ℕ, _*_}
@@ -11,7 +11,7 @@ use Rattle.diagnosis.specs.declared.scores.Outcome.{Outcome}
 use Rattle.diagnosis.specs.declared.scores.Outcome.the-variants.{Scored, Refused}
 use Rattle.diagnosis.specs.declared.scores.Record.{Record}
 use Rattle.diagnosis.specs.declared.scores.Scoring.{Scoring}
-use Rattle.diagnosis.specs.House.{scores, houseVerdict}
+use Rattle.diagnosis.specs.House.{scores, houseVerdict, startedBy31May1981}
 
 -- The paper's values: whether the table is scored; a refusal's number (0 where it is), its row and column; and the record.
 pub record ToldScoring : Type 0 where
@@ -35,11 +35,16 @@ noScores = 0 ∷ 0 ∷ 0 ∷ 0 ∷ 0 ∷ 0 ∷ []
 
 -- "all 0 when refused".
 abbrev pub noRecord : Record
-noRecord = record { scores = noScores; count = 0; verdict = 0 }
+noRecord = record { scores = noScores; count = 0; verdict = 0; started_by_31_may_1981 = 0 }
 
--- The record of a house: its scores from the front of the six places, their count and the verdict.
+-- The record of a house: its scores from the front of the six places, their count, the verdict, and whether work started by 31 May 1981.
 unfoldable pub recordOf : List ℕ → Record
-recordOf table = record { scores = over noScores (scores table); count = 2 * storeys table; verdict = houseVerdict table }
+recordOf table = record {
+  scores = over noScores (scores table);
+  count = 2 * storeys table;
+  verdict = houseVerdict table;
+  started_by_31_may_1981 = startedBy31May1981 table;
+}
 
 -- The answer of scoring a table: the refusal of judging it, or its record.
 unfoldable pub scoring : List ℕ → ToldScoring

@@ -1,35 +1,42 @@
 -- Which two houses are compared, and what of them. Document 01, "Score and verdict": "In demand 3 an accepted house is a table that scoring
 -- refuses on no ground, lent space apart. A and B have equally many rows and equal numbers in them, but for columns 3, 4, 5 and 7 of the
--- house row, none of which is lower in B, and the marked set, which in B has every mark of A."
+-- house row, none of which is lower in B, and the marked set, which in B has every mark of A." Document 02, request 3, has the survey day in the place
+-- of column 7: "A later survey day now counts as having passed more time when two houses are compared."
 use mathlib.Core.Path.{_≡_}
 use mathlib.Core.Bool.{Bool, true, false, _&&_, _||_}
 use mathlib.Core.List.{List}
 use Prim.Native.Nat.{ℕ, _+_, _-_, _*_, _<_, _≤_}
 use lib.ListN.{length, getD}
 use lib.Dec.{eqb}
-use Rattle.survey.specs.Table.{cell, partsRow}
+use Rattle.survey.specs.Table.{cell, partsRow, datesRow}
 use Rattle.survey.specs.Judgement.{judging, within}
 use Rattle.diagnosis.specs.declared.scores.Scoring.{Scoring}
-use Rattle.diagnosis.specs.Rows.{weightColumn, zoneColumn, groundColumn, ageColumn, markedColumn, weight, zone, ground, age, marked}
+use Rattle.diagnosis.specs.Rows.{weightColumn, zoneColumn, groundColumn, markedColumn, surveyDayColumn, weight, zone, ground, marked, surveyDay}
 use Rattle.diagnosis.specs.House.{InHouse, higherBand, scoreBefore, fullScore, houseVerdict}
 use Rattle.diagnosis.specs.Answers.{toldScoring, scoring}
 
--- The columns that may differ: "columns 3, 4, 5 and 7 of the house row" (weight class, zone, ground, age), "and the marked set".
+-- The columns that may differ: 3, 4 and 5 of the house row (weight class, zone, ground), the marked set and the survey day.
 abbrev pub houseMayDiffer : ℕ → Bool
-houseMayDiffer column = eqb column weightColumn || eqb column zoneColumn || eqb column groundColumn || eqb column ageColumn
+houseMayDiffer column = eqb column weightColumn || eqb column zoneColumn || eqb column groundColumn
 
 abbrev pub partsMayDiffer : ℕ → Bool
 partsMayDiffer column = eqb column markedColumn
 
-unfoldable pub mayDiffer : List ℕ → ℕ → ℕ → Bool
-mayDiffer table row column = eqb row 0 && houseMayDiffer column || eqb row (partsRow table) && partsMayDiffer column
+abbrev pub datesMayDiffer : ℕ → Bool
+datesMayDiffer column = eqb column surveyDayColumn
 
--- Of the numbers in the house row that may differ none is lower in B: heavier, in a higher zone, on softer ground, past ten years.
+unfoldable pub mayDiffer : List ℕ → ℕ → ℕ → Bool
+mayDiffer table row column =
+    eqb row 0 && houseMayDiffer column
+    || eqb row (partsRow table) && partsMayDiffer column
+    || eqb row (datesRow table) && datesMayDiffer column
+
+-- Of the numbers that may differ, the marked set apart, none is lower in B: heavier, in a higher zone, on softer ground, surveyed later.
 pub record NoLower (A B : List ℕ) : Type 0 where
   pub heavier : weight A ≤ weight B
   pub higher : zone A ≤ zone B
   pub softer : ground A ≤ ground B
-  pub older : age A ≤ age B
+  pub later : surveyDay A ≤ surveyDay B
 
 -- B is A, or A made worse.
 pub record SameOrWorse (A B : List ℕ) : Type 0 where

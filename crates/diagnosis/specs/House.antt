@@ -1,10 +1,10 @@
 -- What document 01 defines of a house, over its table: "Held strength" to "Score and verdict", each by `method`'s definition on what the rows say.
 -- Storeys and directions count from 1, as in document 01.
-use mathlib.Core.Bool.{Bool, _&&_}
+use mathlib.Core.Bool.{Bool, cond, _&&_}
 use mathlib.Core.List.{List, [], _∷_}
 use Prim.Native.Nat.{ℕ, _+_, _*_, _/_, _≤_, max, min}
 use lib.ListN.{length}
-use lib.Dec.{eqb}
+use lib.Dec.{eqb, leb}
 use Rattle.answer.specs.Lists.{joined}
 use Rattle.survey.specs.Table.{storeys}
 use Rattle.survey.specs.Walls.{storeyWalls}
@@ -19,7 +19,7 @@ use Rattle.method.specs.LayoutFactor.{band, floorType, layoutFactor}
 use Rattle.method.specs.Deterioration.{deteriorationFactor}
 use Rattle.method.specs.Score.{score, scoreBeforeLayout, verdict}
 use Rattle.diagnosis.specs.declared.assessment.Assessment.{Assessment}
-use Rattle.diagnosis.specs.Rows.{houseOf, storeyOf, storeyPart, endA, endB, endPart, wallDirection, wallPlace, wallOf, itemsOf, age}
+use Rattle.diagnosis.specs.Rows.{houseOf, storeyOf, storeyPart, endA, endB, endPart, wallDirection, wallPlace, wallOf, itemsOf, startOfWork, age}
 
 -- The house has this storey and direction.
 pub record InHouse (table : List ℕ) (storey direction : ℕ) : Type 0 where
@@ -140,6 +140,13 @@ leastScore table = leastOf (scores table)
 -- "Verdict by the least score".
 unfoldable pub houseVerdict : List ℕ → ℕ
 houseVerdict table = verdict (leastScore table)
+
+-- "The record, not the report, also says whether work started by 31 May 1981, the grant's last day" (document 02, request 3): 1 where it did, else 0.
+abbrev pub grantsLastDay : ℕ
+grantsLastDay = 19810531
+
+unfoldable pub startedBy31May1981 : List ℕ → ℕ
+startedBy31May1981 table = cond (leb (startOfWork table) grantsLastDay) 1 0
 
 -- What is worked out for a storey and direction, by a held strength that is given; and by what its own walls hold.
 abbrev pub assessmentWith : List ℕ → ℕ → ℕ → ℕ → Assessment

@@ -163,7 +163,8 @@ houseAssessmentWith table holds = record {
 abbrev pub houseAssessment : List ℕ → HouseAssessment
 houseAssessment table = houseAssessmentWith table (allHeld (houseSums table))
 
--- What is worked out for a place; six numbers of one kind; and the record: the scores, their count, and the verdict.
+-- What is worked out for a place; six numbers of one kind; and the record: the scores, their count, the verdict, and whether work started by 31 May
+-- 1981, which is given.
 abbrev pub assessmentIn : HouseAssessment → ℕ → Assessment
 assessmentIn found at = getD (found .places) at noAssessment
 
@@ -172,8 +173,13 @@ each kind found =
     kind (assessmentIn found 0) ∷ kind (assessmentIn found 1) ∷ kind (assessmentIn found 2)
     ∷ kind (assessmentIn found 3) ∷ kind (assessmentIn found 4) ∷ kind (assessmentIn found 5) ∷ []
 
-abbrev pub recordBy : HouseAssessment → Record
-recordBy found = record { scores = each (λ (one : Assessment). one .score) found; count = found .count; verdict = verdict (found .least) }
+abbrev pub recordBy : HouseAssessment → ℕ → Record
+recordBy found started = record {
+  scores = each (λ (one : Assessment). one .score) found;
+  count = found .count;
+  verdict = verdict (found .least);
+  started_by_31_may_1981 = started;
+}
 
 -- The report of what is worked out: its rows, and its bytes.
 abbrev pub rowBy : HouseAssessment → ℕ → List ℕ

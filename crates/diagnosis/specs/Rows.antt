@@ -1,13 +1,15 @@
--- What the rows of a table say, each by value, as `method` takes it. Document 01, "The sheet and the table". Storeys and directions count from 1,
+-- What the rows of a table say, each by value, as `method` takes it. Document 01, "The sheet and the table"; document 02, requests 1 and 3. Storeys and directions count from 1,
 -- as in document 01, rows and columns from 0, as in `survey`. The struct of a row is filled here and nowhere else.
 use mathlib.Core.List.{List}
 use Prim.Native.Nat.{ℕ, _+_}
-use Rattle.survey.specs.Table.{cell, storeys, endsRow, partsRow}
+use Rattle.calendar.specs.Days.{ageOn}
+use Rattle.survey.specs.Table.{cell, storeys, endsRow, partsRow, datesRow}
 use Rattle.method.specs.declared.rows.House.{House}
 use Rattle.method.specs.declared.rows.Storey.{Storey}
 use Rattle.method.specs.declared.rows.HousePart.{HousePart}
 use Rattle.method.specs.declared.rows.Wall.{Wall}
 use Rattle.method.specs.declared.rows.Items.{Items}
+use Rattle.diagnosis.specs.declared.rows.Dates.{Dates}
 
 -- The columns that two houses compared may differ in: of the house row,
 abbrev pub weightColumn : ℕ
@@ -19,12 +21,13 @@ zoneColumn = 3
 abbrev pub groundColumn : ℕ
 groundColumn = 4
 
-abbrev pub ageColumn : ℕ
-ageColumn = 6
-
--- and of the parts row.
+-- of the parts row,
 abbrev pub markedColumn : ℕ
 markedColumn = 2
+
+-- and of the dates row.
+abbrev pub surveyDayColumn : ℕ
+surveyDayColumn = 3
 
 -- The house row.
 abbrev pub weight : List ℕ → ℕ
@@ -38,9 +41,6 @@ ground table = cell table 0 groundColumn
 
 abbrev pub foundation : List ℕ → ℕ
 foundation table = cell table 0 5
-
-abbrev pub age : List ℕ → ℕ
-age table = cell table 0 ageColumn
 
 -- "Column 8 of the house row becomes snow" (document 02, request 1), which two houses compared have in common.
 abbrev pub snowColumn : ℕ
@@ -107,3 +107,20 @@ marked table = cell table (partsRow table) markedColumn
 
 abbrev pub itemsOf : List ℕ → Items
 itemsOf table = record { present = present table; marked = marked table }
+
+-- The dates row: "8; start of work; completion; survey day; four 0s" (document 02, request 3), each a day of eight digits.
+abbrev pub startOfWork : List ℕ → ℕ
+startOfWork table = cell table (datesRow table) 1
+
+abbrev pub completion : List ℕ → ℕ
+completion table = cell table (datesRow table) 2
+
+abbrev pub surveyDay : List ℕ → ℕ
+surveyDay table = cell table (datesRow table) surveyDayColumn
+
+abbrev pub datesOf : List ℕ → Dates
+datesOf table = record { start = startOfWork table; completion = completion table; survey = surveyDay table }
+
+-- The house's age, 1 under ten years and 2 ten or more: its age on the survey day.
+abbrev pub age : List ℕ → ℕ
+age table = ageOn (completion table) (surveyDay table)

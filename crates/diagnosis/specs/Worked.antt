@@ -17,7 +17,7 @@ p1Report =
 -- P10's houses, by zone: P1's with no marks and in X only end walls, of 540 and 630 mm.
 abbrev pub p10 : ℕ → List ℕ
 p10 zone =
-    1 ∷ 1 ∷ 2 ∷ zone ∷ 1 ∷ 1 ∷ 2 ∷ 0
+    1 ∷ 1 ∷ 2 ∷ zone ∷ 1 ∷ 1 ∷ 0 ∷ 0
     ∷ 2 ∷ 1 ∷ 4000 ∷ 5000 ∷ 1 ∷ 0 ∷ 0 ∷ 0
     ∷ 3 ∷ 1 ∷ 1 ∷ 1000 ∷ 1000 ∷ 1 ∷ 1 ∷ 0
     ∷ 3 ∷ 1 ∷ 2 ∷ 1000 ∷ 1000 ∷ 1 ∷ 1 ∷ 0
@@ -27,32 +27,41 @@ p10 zone =
     ∷ 4 ∷ 1 ∷ 2 ∷ 2 ∷ 20 ∷ 4000 ∷ 1 ∷ 1
     ∷ 4 ∷ 1 ∷ 2 ∷ 3 ∷ 20 ∷ 2000 ∷ 1 ∷ 1
     ∷ 5 ∷ 8191 ∷ 0 ∷ 0 ∷ 0 ∷ 0 ∷ 0 ∷ 0
+    ∷ 8 ∷ 19800401 ∷ 19801001 ∷ 20120401 ∷ 0 ∷ 0 ∷ 0 ∷ 0
     ∷ []
 
--- A house of two storeys: light, in zone 90, on ordinary ground, under ten years, the corridor floor alone marked.
+-- A house of two storeys: light, in zone 90, on ordinary ground, surveyed on the last day on which it is under ten years, the corridor floor alone
+-- marked.
+abbrev pub underTenDay : ℕ
+underTenDay = 20080331
+
 abbrev pub sound : List ℕ
-sound = twoStoreys 1 90 1 1 2048
+sound = twoStoreys 1 90 1 underTenDay 2048
 
 -- The same house worse in one of the five,
 abbrev pub heavy : List ℕ
-heavy = twoStoreys 2 90 1 1 2048
+heavy = twoStoreys 2 90 1 underTenDay 2048
 
 abbrev pub zone100 : List ℕ
-zone100 = twoStoreys 1 100 1 1 2048
+zone100 = twoStoreys 1 100 1 underTenDay 2048
 
 abbrev pub softGround : List ℕ
-softGround = twoStoreys 1 90 2 1 2048
+softGround = twoStoreys 1 90 2 underTenDay 2048
+
+-- (surveyed a day later)
+abbrev pub tenDay : ℕ
+tenDay = 20080401
 
 abbrev pub overTen : List ℕ
-overTen = twoStoreys 1 90 1 2 2048
+overTen = twoStoreys 1 90 1 tenDay 2048
 
 -- (the outer wall marked too)
 abbrev pub moreMarks : List ℕ
-moreMarks = twoStoreys 1 90 1 1 2056
+moreMarks = twoStoreys 1 90 1 underTenDay 2056
 
 -- and in all of them.
 abbrev pub allWorse : List ℕ
-allWorse = twoStoreys 2 100 2 2 2056
+allWorse = twoStoreys 2 100 2 tenDay 2056
 
 -- A house under snow, by the number that stands for its depth in column 8 of the house row.
 abbrev pub underSnow : ℕ → List ℕ → List ℕ
@@ -69,7 +78,7 @@ snowyWorse = underSnow 1 allWorse
 -- ends 10 m²; in each storey and direction three walls of 3.1 kN/m and 4,550 mm with joint IV, one at each place.
 abbrev pub weakJoints : List ℕ
 weakJoints =
-    1 ∷ 2 ∷ 3 ∷ 100 ∷ 1 ∷ 1 ∷ 2 ∷ 0
+    1 ∷ 2 ∷ 3 ∷ 100 ∷ 1 ∷ 1 ∷ 0 ∷ 0
     ∷ 2 ∷ 1 ∷ 4000 ∷ 5000 ∷ 1 ∷ 0 ∷ 0 ∷ 0
     ∷ 2 ∷ 2 ∷ 4000 ∷ 5000 ∷ 1 ∷ 0 ∷ 0 ∷ 0
     ∷ 3 ∷ 1 ∷ 1 ∷ 1000 ∷ 1000 ∷ 2 ∷ 2 ∷ 0
@@ -89,6 +98,7 @@ weakJoints =
     ∷ 4 ∷ 2 ∷ 2 ∷ 2 ∷ 31 ∷ 4550 ∷ 4 ∷ 1
     ∷ 4 ∷ 2 ∷ 2 ∷ 3 ∷ 31 ∷ 4550 ∷ 4 ∷ 1
     ∷ 5 ∷ 8191 ∷ 0 ∷ 0 ∷ 0 ∷ 0 ∷ 0 ∷ 0
+    ∷ 8 ∷ 19800401 ∷ 19801001 ∷ 20120401 ∷ 0 ∷ 0 ∷ 0 ∷ 0
     ∷ []
 
 -- Of a house of two storeys: its scores, its scores before the layout factor, and the bands of its better ends, storey by storey, X before Y.

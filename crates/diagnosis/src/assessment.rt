@@ -2,11 +2,13 @@
 // of it.
 use crate::held::HeldSums;
 use crate::held::house_sums;
+use crate::rows::dates_of;
 use crate::rows::end_part;
 use crate::rows::house_of;
 use crate::rows::items_of;
 use crate::rows::storey_of;
 use crate::rows::storey_part;
+use calendar::age_on;
 use method::Bands;
 use method::Fraction;
 use method::House;
@@ -18,8 +20,6 @@ use method::layout_factor;
 use method::narrow_factor;
 use method::required_strength;
 use method::score;
-use survey::cell;
-use survey::columns::AGE;
 ghost use mathlib.Core.Path.{_≡_};
 ghost use Prim.Native.Nat.{min};
 ghost use Rattle.diagnosis.specs.House.{endBand, deterioration, assessmentWith};
@@ -46,11 +46,13 @@ pub struct HouseAssessment {
     pub factor: Fraction,
 }
 
-// The house's deterioration factor.
+// The house's deterioration factor, by its age on the survey day.
 fn deterioration(table: &[u32]) -> Fraction
     ensures { λ r. ⌜ r ≡ deterioration (now (table .entry)) ⌝ }
 {
-    deterioration_factor(items_of(table), cell(table, 0, AGE))
+    let dates = dates_of(table);
+    let age = age_on(dates.completion, dates.survey);
+    deterioration_factor(items_of(table), age)
 }
 
 // The band of an end, 0 for end a and 1 for end b, by its storey's narrow factor and what its solid walls

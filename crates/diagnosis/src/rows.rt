@@ -1,11 +1,12 @@
-// What the rows of a table say, each by value, as `method` takes it. A row's struct is filled here and
-// nowhere else.
+// What the rows of a table say, each by value, as `method` takes it; the dates row's too. A row's struct
+// is filled here and nowhere else.
 use method::House;
 use method::HousePart;
 use method::Items;
 use method::Storey;
 use method::Wall;
 use survey::cell;
+use survey::columns::COMPLETION;
 use survey::columns::END_AREA;
 use survey::columns::FLOOR_AREA;
 use survey::columns::FLOOR_TYPE;
@@ -18,17 +19,27 @@ use survey::columns::PART_STOREYS;
 use survey::columns::PRESENT;
 use survey::columns::SHORT_SIDE;
 use survey::columns::SNOW;
+use survey::columns::START_OF_WORK;
 use survey::columns::STOREYS;
 use survey::columns::STRENGTH;
+use survey::columns::SURVEY_DAY;
 use survey::columns::VOID;
 use survey::columns::WALL_TYPE;
 use survey::columns::WEIGHT;
 use survey::columns::ZONE;
+use survey::dates_row;
 use survey::parts_row;
 ghost use mathlib.Core.Path.{_≡_};
 ghost use Prim.Native.Nat.{_≤_};
-ghost use Rattle.diagnosis.specs.Rows.{storeyOf, storeyPart, endPart, wallOf, itemsOf};
+ghost use Rattle.diagnosis.specs.Rows.{storeyOf, storeyPart, endPart, wallOf, itemsOf, datesOf};
 ghost use Rattle.diagnosis.specs.Internal.{Stands, HouseOf, EndOf};
+
+// The dates row: the days on which work started, the house was completed and it was surveyed.
+pub struct Dates {
+    pub start: u32,
+    pub completion: u32,
+    pub survey: u32,
+}
 
 // The house row of an accepted table.
 pub(crate) fn house_of(table: &[u32]) -> House
@@ -110,5 +121,17 @@ pub(crate) fn items_of(table: &[u32]) -> Items
     Items {
         present: cell(table, parts, PRESENT),
         marked: cell(table, parts, MARKED),
+    }
+}
+
+// The dates row.
+pub(crate) fn dates_of(table: &[u32]) -> Dates
+    ensures { λ r. ⌜ r ≡ datesOf (now (table .entry)) ⌝ }
+{
+    let dates = dates_row(table);
+    Dates {
+        start: cell(table, dates, START_OF_WORK),
+        completion: cell(table, dates, COMPLETION),
+        survey: cell(table, dates, SURVEY_DAY),
     }
 }

@@ -1,14 +1,17 @@
 // A table scored: its record, or the refusal.
 use crate::assessment::HouseAssessment;
 use crate::assessment::assess_house;
+use crate::rows::dates_of;
 use answer::Answer;
 use method::verdict;
 use survey::judge;
 ghost use mathlib.Core.Path.{_≡_};
 ghost use Rattle.diagnosis.specs.Answers.{toldScoring, scoring};
+ghost use Rattle.diagnosis.specs.House.{startedBy31May1981};
 ghost use Rattle.diagnosis.specs.Internal.{recordBy};
 
-// Document 01: "a record of up to six scores with the verdict".
+// Document 01: "a record of up to six scores with the verdict"; document 02, request 3: it "also says
+// whether work started by 31 May 1981".
 pub struct Record {
     // By storey from the ground up, and in each storey direction X, then direction Y; 0 where there is
     // no such storey.
@@ -17,6 +20,8 @@ pub struct Record {
     pub count: u32,
     // 1 to 4; 0 where the table is refused.
     pub verdict: u32,
+    // 1 where work on the house started by that day, the grant's last; else 0.
+    pub started_by_31_may_1981: u32,
 }
 
 // Document 01: "scoring has its record in place of the count".
@@ -33,9 +38,22 @@ pub struct Scoring {
     pub result: Record,
 }
 
-// The record of what is worked out for a house.
-fn record_of(found: HouseAssessment) -> Record
-    ensures { λ r. ⌜ r ≡ recordBy found ⌝ }
+// The last day on which work could start for the grant.
+const GRANTS_LAST_DAY: u32 = 19_810_531;
+
+// 1 where work started by 31 May 1981, else 0.
+fn started_by_31_may_1981(table: &[u32]) -> u32
+    ensures { λ r. ⌜ r ≡ startedBy31May1981 (now (table .entry)) ⌝ }
+{
+    if GRANTS_LAST_DAY < dates_of(table).start {
+        return 0;
+    }
+    1
+}
+
+// The record of what is worked out for a house, and of when work started.
+fn record_of(found: HouseAssessment, started: u32) -> Record
+    ensures { λ r. ⌜ r ≡ recordBy found started ⌝ }
 {
     let places = found.places;
     Record {
@@ -49,6 +67,7 @@ fn record_of(found: HouseAssessment) -> Record
         ],
         count: found.count,
         verdict: verdict(found.least),
+        started_by_31_may_1981: started,
     }
 }
 
@@ -71,10 +90,11 @@ pub fn score(table: &[u32]) -> Scoring
                 scores: [0u32; 6],
                 count: 0,
                 verdict: 0,
+                started_by_31_may_1981: 0,
             },
         },
         Answer::Count(_) => {
-            let result = record_of(assess_house(table));
+            let result = record_of(assess_house(table), started_by_31_may_1981(table));
             Scoring {
                 outcome: Outcome::Scored,
                 result,

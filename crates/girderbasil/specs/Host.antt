@@ -32,7 +32,12 @@ toldHostScoring answer = record {
   number = answer .number;
   row = answer .row;
   column = answer .column;
-  result = record { scores = answer .scores; count = answer .count; verdict = answer .verdict };
+  result = record {
+    scores = answer .scores;
+    count = answer .count;
+    verdict = answer .verdict;
+    started_by_31_may_1981 = answer .started_by_31_may_1981;
+  };
 }
 
 -- What the scoring program prints for a sheet, from the front of 455 bytes, with the number, row and column of the refusal that it tells, if any.

@@ -38,6 +38,8 @@ pub struct HostScoring {
     pub scores: [u32; 6],
     pub count: u32,
     pub verdict: u32,
+    // 1 where work on the house started by 31 May 1981, the grant's last day; else 0.
+    pub started_by_31_may_1981: u32,
 }
 
 // What the scoring program prints for a sheet: `number` is 0 where that is the report, and else it is the
@@ -98,6 +100,7 @@ fn host_scoring(number: u32, row: u32, column: u32, result: Record) -> HostScori
         scores,
         count: result.count,
         verdict: result.verdict,
+        started_by_31_may_1981: result.started_by_31_may_1981,
     }
 }
 

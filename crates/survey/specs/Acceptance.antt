@@ -6,8 +6,9 @@ use mathlib.Core.List.{List}
 use Prim.Native.Nat.{ℕ, _+_, _<_, _≤_}
 use lib.ListN.{length, getD}
 use Rattle.answer.specs.Length.{mostWalls, Whole}
-use Rattle.survey.specs.Table.{cell, storeys, endsStorey, firstWall, wallRows, partsRow, rowsDue}
-use Rattle.survey.specs.Ranges.{Range, lows, highs, houseColumns, storeyColumns, endsColumns, wallColumns, partsColumns}
+use Rattle.calendar.specs.Days.{isDay}
+use Rattle.survey.specs.Table.{cell, storeys, endsStorey, firstWall, wallRows, partsRow, datesRow, rowsDue}
+use Rattle.survey.specs.Ranges.{Range, lows, highs, houseColumns, storeyColumns, endsColumns, wallColumns, partsColumns, datesColumns}
 use Rattle.survey.specs.Judgement.{within}
 
 -- Every number of a row lies in its column's range.
@@ -17,7 +18,7 @@ Inside ranges table row =
 
 -- What an accepted table is made of.
 pub record Accepted (table : List ℕ) : Type 0 where
-  -- Whole rows, not too many, and the parts row is the last.
+  -- Whole rows, not too many, and the dates row is the last.
   pub sizes : Whole 8 (length table) (rowsDue table)
   -- Every row's columns lie in their ranges: the house,
   pub house-inside : Inside (houseColumns table) table 0
@@ -27,8 +28,10 @@ pub record Accepted (table : List ℕ) : Type 0 where
   pub ends-inside : (row : ℕ) → storeys table < row → row < firstWall table → Inside (endsColumns table row) table row
   -- a wall, between the ends and the parts,
   pub wall-inside : (row : ℕ) → firstWall table ≤ row → row < partsRow table → Inside (wallColumns table row) table row
-  -- and the parts.
+  -- the parts,
   pub parts-inside : Inside partsColumns table (partsRow table)
+  -- and the dates.
+  pub dates-inside : Inside datesColumns table (datesRow table)
   -- The two ends' areas are at most their storey's.
   pub ends-fit : (row : ℕ) → storeys table < row → row < firstWall table → cell table row 3 + cell table row 4 ≤ cell table (endsStorey table row) 2
   -- The walls' storeys never fall, and there are not too many walls.
@@ -37,3 +40,6 @@ pub record Accepted (table : List ℕ) : Type 0 where
   -- Every mark is on a part that is present, and some part is.
   pub marks-present : within (cell table (partsRow table) 2) (cell table (partsRow table) 1) ≡ true
   pub some-present : 0 < cell table (partsRow table) 1
+  -- Start of work, completion and survey day are days, and none is before the one to its left.
+  pub days : (column : ℕ) → 1 ≤ column → column ≤ 3 → isDay (cell table (datesRow table) column) ≡ true
+  pub in-order : (column : ℕ) → 1 ≤ column → column < 3 → cell table (datesRow table) column ≤ cell table (datesRow table) (column + 1)

@@ -1,16 +1,17 @@
 -- Which refusal a table gets. Document 01, "What a refused sheet is told": scoring tests "1, then each row from the top for 3, 4, 5, 6,
--- 7, 8 in that order (4 names the leftmost column; 3 and 5 name column 1)".
+-- 7, 8 in that order (4 names the leftmost column; 3 and 5 name column 1)"; document 02, request 3, has 10 and 11 for the dates row.
 use Prim.Native.Nat.{ℕ, _+_, _-_}
 use mathlib.Core.Bool.{Bool, cond, not, _||_}
 use mathlib.Core.List.{List}
 use lib.ListN.{length, getD}
 use lib.Dec.{eqb, leb, ltb}
 use lib.Bits.{bitAnd}
-use Rattle.answer.specs.Told.{Told, counted, refusal, sheet-length, row-out-of-order, out-of-range, too-many-walls, ends-exceed-storey, mark-on-absent-part, no-parts}
+use Rattle.answer.specs.Told.{Told, counted, refusal, sheet-length, row-out-of-order, out-of-range, too-many-walls, ends-exceed-storey, mark-on-absent-part, no-parts, no-such-day, dates-out-of-order}
 use Rattle.answer.specs.First.{first}
 use Rattle.answer.specs.Length.{mostWalls, rowsIn}
-use Rattle.survey.specs.Table.{cell, storeys, endsStorey, firstWall, partsRow, rowsDue}
-use Rattle.survey.specs.Ranges.{Range, lows, highs, houseColumns, storeyColumns, endsColumns, wallColumns, partsColumns}
+use Rattle.calendar.specs.Days.{isDay}
+use Rattle.survey.specs.Table.{cell, storeys, endsStorey, firstWall, partsRow, datesRow, rowsDue}
+use Rattle.survey.specs.Ranges.{Range, lows, highs, houseColumns, storeyColumns, endsColumns, wallColumns, partsColumns, datesColumns}
 use Rattle.survey.specs.declared.fault.Fault.{Fault}
 
 -- A row's fault: a refusal's number and column, from 1; number 0 where the row has none.
@@ -84,7 +85,23 @@ partsFault table row =
     then test (not (within (cell table row 2) (cell table row 1))) (fault mark-on-absent-part 3)
     then test (eqb (cell table row 1) 0) (fault no-parts 2)
 
--- The fault of a row, by where it stands, if no row before it has a fault. After the parts row no row is due.
+-- "Refused: 10 no such day (leftmost column), 11 a date before the one to its left (leftmost such column; equal days are fine)".
+unfoldable pub daysFault : List ℕ → ℕ → Fault
+daysFault table row =
+    test (not (isDay (cell table row 1))) (fault no-such-day 2)
+    then test (not (isDay (cell table row 2))) (fault no-such-day 3)
+    then test (not (isDay (cell table row 3))) (fault no-such-day 4)
+
+unfoldable pub orderFault : List ℕ → ℕ → Fault
+orderFault table row =
+    test (ltb (cell table row 2) (cell table row 1)) (fault dates-out-of-order 3)
+    then test (ltb (cell table row 3) (cell table row 2)) (fault dates-out-of-order 4)
+
+-- "10 then 11 are tested on this row after its ranges".
+unfoldable pub datesFault : List ℕ → ℕ → Fault
+datesFault table row = columnsFault 1 datesColumns table row then daysFault table row then orderFault table row
+
+-- The fault of a row, by where it stands, if no row before it has a fault. After the dates row no row is due.
 unfoldable pub rowFault : List ℕ → ℕ → Fault
 rowFault table row =
     cond (eqb row 0) (houseFault table)
@@ -92,7 +109,8 @@ rowFault table row =
     (cond (ltb row (firstWall table)) (endsFault table row)
     (cond (ltb row (partsRow table)) (wallFault table row)
     (cond (eqb row (partsRow table)) (partsFault table row)
-    (fault row-out-of-order 1)))))
+    (cond (eqb row (datesRow table)) (datesFault table row)
+    (fault row-out-of-order 1))))))
 
 -- The answer of judging a table: the first faulty row's refusal; 3 at the row after the last where the table ends early; else the count
 -- of rows.

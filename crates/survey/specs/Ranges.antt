@@ -39,7 +39,7 @@ houseColumns table =
     ∷ exactly (zone (cell table 0 3))  -- zone in hundredths
     ∷ 1 to 2  -- ground: 1 ordinary, 2 very soft
     ∷ 1 to 3  -- foundation: 000's I to III
-    ∷ 1 to 2  -- age: 1 under ten years, 2 ten or more
+    ∷ unused  -- "Age in the house row must be 0" (document 02, request 3)
     ∷ 0 to 3  -- snow: 0 none, 1 for 1 m cleared, 2 for 2 m, 3 for 2.5 m (document 02, request 1)
     ∷ []
 
@@ -90,13 +90,29 @@ wallColumns table row =
     ∷ 1 to 3  -- type: 1 solid, 2 window opening, 3 full-height opening
     ∷ []
 
--- "Parts, one row, last". "A set is 0 to 8,191".
+-- "Parts, one row". "A set is 0 to 8,191".
 abbrev pub partsColumns : List Range
 partsColumns =
     exactly 5
     ∷ 0 to 8191  -- present set
     ∷ 0 to 8191  -- marked set
     ∷ unused
+    ∷ unused
+    ∷ unused
+    ∷ unused
+    ∷ unused
+    ∷ []
+
+-- Document 02, request 3: "A row of kind 8 must follow the parts row, ..: 8; start of work; completion; survey day; four 0s"; "from 19000101 to 21991231".
+abbrev pub anyDay : Range
+anyDay = 19000101 to 21991231
+
+abbrev pub datesColumns : List Range
+datesColumns =
+    exactly 8
+    ∷ anyDay  -- start of work
+    ∷ anyDay  -- completion
+    ∷ anyDay  -- survey day
     ∷ unused
     ∷ unused
     ∷ unused

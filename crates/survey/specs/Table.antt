@@ -1,5 +1,6 @@
 -- A table's numbers, and where its rows stand. Document 01, "The sheet and the table": "32-bit numbers, eight to a row"; the house, its
--- storeys from the ground up, ends for each storey and direction, walls, and one parts row. Rows and columns count from 0 here.
+-- storeys from the ground up, ends for each storey and direction, walls, and one parts row; document 02, request 3: and one dates row. Rows and columns
+-- count from 0 here.
 use Prim.Native.Nat.{ℕ, _+_, _-_, _*_, _/_, _%_}
 use mathlib.Core.Bool.{Bool, not}
 use mathlib.Core.List.{List}
@@ -43,6 +44,10 @@ wallRows table = first (λ k. not (isWall table (firstWall table + k))) (length 
 abbrev pub partsRow : List ℕ → ℕ
 partsRow table = firstWall table + wallRows table
 
--- How many rows a whole table has: the parts row is the last.
+-- The row after that, where the dates are due: "A row of kind 8 must follow the parts row".
+abbrev pub datesRow : List ℕ → ℕ
+datesRow table = partsRow table + 1
+
+-- How many rows a whole table has: the dates row is the last.
 abbrev pub rowsDue : List ℕ → ℕ
-rowsDue table = partsRow table + 1
+rowsDue table = datesRow table + 1

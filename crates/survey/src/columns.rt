@@ -1,7 +1,7 @@
 // The columns of a table's rows, from 0, by the words of document 01, "The sheet and the table", and of
-// document 02, request 1 (snow).
+// document 02, requests 1 (snow) and 3 (dates). Column 6 of the house row, once its age, is unused.
 
-// In every row its kind; in every row but the house's and the parts' its storey.
+// In every row its kind; in every row but the house's, the parts' and the dates' its storey.
 pub const KIND: usize = 0;
 
 pub const STOREY: usize = 1;
@@ -16,8 +16,6 @@ pub const ZONE: usize = 3;
 pub const GROUND: usize = 4;
 
 pub const FOUNDATION: usize = 5;
-
-pub const AGE: usize = 6;
 
 pub const SNOW: usize = 7;
 
@@ -52,3 +50,10 @@ pub const WALL_TYPE: usize = 7;
 pub const PRESENT: usize = 1;
 
 pub const MARKED: usize = 2;
+
+// The dates row, a day in each:
+pub const START_OF_WORK: usize = 1;
+
+pub const COMPLETION: usize = 2;
+
+pub const SURVEY_DAY: usize = 3;

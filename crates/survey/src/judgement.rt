@@ -1,8 +1,9 @@
 // A table judged: the count of its rows, or the refusal. Its rows are gone through once, from the top: first
 // the rows before the walls, of which the house's row says how many there are; then the walls, which end at
-// the first row of another kind; then the parts row, which is the last.
+// the first row of another kind; then the parts row, and the dates row, which is the last.
 use crate::columns::STOREYS;
 use crate::fault::Fault;
+use crate::rows::dates_fault;
 use crate::rows::ends_fault;
 use crate::rows::house_fault;
 use crate::rows::parts_fault;
@@ -20,7 +21,7 @@ ghost use Prim.Native.Nat.{_<_, _≤_, _+_, _*_};
 ghost use lib.ListN.{length};
 ghost use Rattle.answer.specs.Told.{told, refusal, row-out-of-order};
 ghost use Rattle.answer.specs.Length.{mostRows};
-ghost use Rattle.survey.specs.Table.{cell, firstWall, partsRow};
+ghost use Rattle.survey.specs.Table.{cell, firstWall, partsRow, datesRow};
 ghost use Rattle.survey.specs.Judgement.{rowFault, judging};
 ghost use Rattle.survey.specs.Internal.{JudgedTo};
 
@@ -48,6 +49,27 @@ fn out_of_order(row: usize) -> Answer
     }
 }
 
+// Judges the rest of a table whose rows before the dates row have no fault. `row` is the dates row.
+fn judge_dates(table: &[u32], rows: usize, row: usize) -> Answer
+    requires judged { ⌜ JudgedTo (now table) rows row ⌝ }
+    requires row { ⌜ row ≡ datesRow (now table) ⌝ }
+    ensures { λ r. ⌜ told r ≡ judging (now (table .entry)) ⌝ }
+{
+    if row == rows {
+        return out_of_order(row);
+    }
+    let found = dates_fault(table, row);
+    if 0 < found.number {
+        return refused(found, row);
+    }
+    let after = row + 1;
+    if after < rows {
+        return out_of_order(after);
+    }
+    let count = rows as u32;
+    Answer::Count(count)
+}
+
 // Judges the rest of a table whose rows before the parts row have no fault. `row` is the parts row.
 fn judge_parts(table: &[u32], rows: usize, row: usize) -> Answer
     requires judged { ⌜ JudgedTo (now table) rows row ⌝ }
@@ -61,12 +83,7 @@ fn judge_parts(table: &[u32], rows: usize, row: usize) -> Answer
     if 0 < found.number {
         return refused(found, row);
     }
-    let after = row + 1;
-    if after < rows {
-        return out_of_order(after);
-    }
-    let count = rows as u32;
-    Answer::Count(count)
+    judge_dates(table, rows, row + 1)
 }
 
 // Judges the rest of a table whose rows before the walls have no fault. `first` is the first wall's row.

@@ -1,8 +1,8 @@
-// A table's rows: which refusal a table gets, if any, where its parts row stands, and a storey's walls as
-// a part of it.
+// A table's rows: which refusal a table gets, if any, where its parts row and its dates row stand, and a
+// storey's walls as a part of it.
 //
-// Uses `answer` alone. Document 01, "The sheet and the table" and "What a refused sheet is told"; the
-// definitions stand in specs/Table.antt, Ranges.antt, Judgement.antt, Acceptance.antt and Walls.antt, in
+// Uses `answer` and, for the dates row, `calendar`. Document 01, "The sheet and the table" and "What a
+// refused sheet is told", and document 02, requests 1 and 3; the definitions stand in specs/Table.antt, Ranges.antt, Judgement.antt, Acceptance.antt and Walls.antt, in
 // that order. The theorems are in proofs/Theorems.antt. The columns have names, in src/columns.rt.
 pub mod columns;
 mod fault;
@@ -13,6 +13,7 @@ mod table;
 mod walls;
 
 pub use judgement::judge;
+pub use places::dates_row;
 pub use places::parts_row;
 pub use table::cell;
 pub use walls::storey_run;

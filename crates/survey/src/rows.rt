@@ -1,10 +1,13 @@
 // The faults of each kind of row. The ranges stand as specs/Ranges.antt has them, the least numbers of
 // the eight columns and then the greatest.
+use crate::columns::COMPLETION;
 use crate::columns::END_AREA;
 use crate::columns::FLOOR_AREA;
 use crate::columns::MARKED;
 use crate::columns::PRESENT;
+use crate::columns::START_OF_WORK;
 use crate::columns::STOREY;
+use crate::columns::SURVEY_DAY;
 use crate::columns::WALL_TYPE;
 use crate::columns::ZONE;
 use crate::fault::Fault;
@@ -12,18 +15,21 @@ use crate::fault::columns_fault;
 use crate::fault::fault_at;
 use crate::fault::no_fault;
 use crate::table::cell;
+use answer::DATES_OUT_OF_ORDER;
 use answer::ENDS_EXCEED_STOREY;
 use answer::MARK_ON_ABSENT_PART;
 use answer::MOST_WALLS;
 use answer::NO_PARTS;
+use answer::NO_SUCH_DAY;
 use answer::ROW_OUT_OF_ORDER;
 use answer::TOO_MANY_WALLS;
+use calendar::is_day;
 ghost use mathlib.Core.Path.{_≡_};
 ghost use Prim.Native.Nat.{_<_, _≤_, _+_, _*_};
 ghost use lib.ListN.{length};
 ghost use Rattle.survey.specs.Table.{cell, firstWall};
 ghost use Rattle.survey.specs.Ranges.{zone, isOpening, wallColumns};
-ghost use Rattle.survey.specs.Judgement.{columnsFault, houseFault, storeyFault, endsFault, storeyBefore, wallFault, partsFault};
+ghost use Rattle.survey.specs.Judgement.{columnsFault, houseFault, storeyFault, endsFault, storeyBefore, wallFault, partsFault, daysFault, orderFault, datesFault};
 
 // The zone of that number; 100 where no zone has it.
 fn zone(number: u32) -> u32
@@ -50,8 +56,8 @@ pub(crate) fn house_fault(table: &[u32]) -> Fault
     columns_fault(
         table,
         0,
-        [1, 1, 1, zone, 1, 1, 1, 0],
-        [1, 3, 3, zone, 2, 3, 2, 3],
+        [1, 1, 1, zone, 1, 1, 0, 0],
+        [1, 3, 3, zone, 2, 3, 0, 3],
         1,
     )
 }
@@ -197,4 +203,61 @@ pub(crate) fn parts_fault(table: &[u32], row: usize) -> Fault
         return fault_at(NO_PARTS, 2);
     }
     no_fault()
+}
+
+// The first day that a dates row may hold, and the last.
+const FIRST_DAY: u32 = 19_000_101;
+
+const LAST_DAY: u32 = 21_991_231;
+
+// Refusal 10 for a dates row, at the leftmost date that is no day.
+fn days_fault(table: &[u32], row: usize) -> Fault
+    ensures { λ r. ⌜ r ≡ daysFault (now (table .entry)) row ⌝ }
+{
+    if !is_day(cell(table, row, START_OF_WORK)) {
+        return fault_at(NO_SUCH_DAY, 2);
+    }
+    if !is_day(cell(table, row, COMPLETION)) {
+        return fault_at(NO_SUCH_DAY, 3);
+    }
+    if !is_day(cell(table, row, SURVEY_DAY)) {
+        return fault_at(NO_SUCH_DAY, 4);
+    }
+    no_fault()
+}
+
+// Refusal 11 for a dates row, at the leftmost date that is before the one to its left.
+fn order_fault(table: &[u32], row: usize) -> Fault
+    ensures { λ r. ⌜ r ≡ orderFault (now (table .entry)) row ⌝ }
+{
+    let completion = cell(table, row, COMPLETION);
+    if completion < cell(table, row, START_OF_WORK) {
+        return fault_at(DATES_OUT_OF_ORDER, 3);
+    }
+    if cell(table, row, SURVEY_DAY) < completion {
+        return fault_at(DATES_OUT_OF_ORDER, 4);
+    }
+    no_fault()
+}
+
+// The dates row.
+pub(crate) fn dates_fault(table: &[u32], row: usize) -> Fault
+    requires { ⌜ 8 * row + 8 ≤ length (now table) ⌝ }
+    ensures { λ r. ⌜ r ≡ datesFault (now (table .entry)) row ⌝ }
+{
+    let found = columns_fault(
+        table,
+        row,
+        [8, FIRST_DAY, FIRST_DAY, FIRST_DAY, 0, 0, 0, 0],
+        [8, LAST_DAY, LAST_DAY, LAST_DAY, 0, 0, 0, 0],
+        1,
+    );
+    if 0 < found.number {
+        return found;
+    }
+    let unknown = days_fault(table, row);
+    if 0 < unknown.number {
+        return unknown;
+    }
+    order_fault(table, row)
 }

@@ -1,0 +1,2 @@
+-- The definitions that the calendar's promises and theorems cite.
+pub mod Days
