@@ -12,24 +12,25 @@ use lib.ListN.{length}
 use borrow.Author.Tests.{eqb-true, ltb-true, ltb-false, leb-false, eqb-false, ne-eqb, le-ltb, not-false}
 use Rattle.answer.specs.declared.Answer.{Answer}
 use Rattle.answer.specs.declared.Answer.the-variants.{Count, Refused}
-use Rattle.answer.specs.Told.{Told, told, counted, refusal, sheet-length, row-out-of-order, mark-on-absent-part}
+use Rattle.answer.specs.Told.{Told, told, counted, refusal, sheet-length, row-out-of-order, mark-on-absent-part, no-such-day, dates-out-of-order}
 use Rattle.answer.specs.First.{first}
 use Rattle.answer.specs.Length.{mostWalls, rowsIn, Whole}
 use Rattle.answer.proofs.Refusals.{passed, refused-told}
 use Rattle.answer.proofs.Places.{before-first, at-first}
 use Rattle.answer.proofs.Lengths.{rows-whole}
-use Rattle.survey.specs.Table.{cell, storeys, endsStorey, firstWall, wallRows, partsRow, rowsDue}
-use Rattle.survey.specs.Ranges.{zone, houseColumns, storeyColumns, endsColumns, wallColumns, partsColumns}
-use Rattle.survey.specs.Judgement.{fault, none, faulty, test, _then_, columnsFault, houseFault, storeyFault, endsFault, storeyBefore, wallFault, within, partsFault, rowFault, judging}
+use Rattle.calendar.specs.Days.{isDay}
+use Rattle.survey.specs.Table.{cell, storeys, endsStorey, firstWall, wallRows, partsRow, datesRow, rowsDue}
+use Rattle.survey.specs.Ranges.{zone, houseColumns, storeyColumns, endsColumns, wallColumns, partsColumns, datesColumns}
+use Rattle.survey.specs.Judgement.{fault, none, faulty, test, _then_, columnsFault, houseFault, storeyFault, endsFault, storeyBefore, wallFault, within, partsFault, daysFault, orderFault, datesFault, rowFault, judging}
 use Rattle.survey.specs.Acceptance.{Inside, Accepted}
 use Rattle.survey.specs.Internal.{JudgedTo}
 use Rattle.survey.proofs.Faults.{not-faulty}
-use Rattle.survey.proofs.RowFaults.{ends-right, wall-right, parts-right, row-house, row-storey, row-ends, row-wall, row-parts, row-after}
+use Rattle.survey.proofs.RowFaults.{ends-right, wall-right, parts-right, days-right, order-right, dates-order, row-house, row-storey, row-ends, row-wall, row-parts, row-dates, row-after}
 use Rattle.survey.proofs.Judging.{judging-accepted}
 use Rattle.survey.proofs.RefusalNumbers.{judging-by-number}
 use Rattle.survey.proofs.FaultlessRows.{Clean, then-clean, test-clean, columns-inside, inside-columns, house-storeys}
 
--- Every row is without a fault, and the parts row is among them.
+-- Every row is without a fault, and the dates row is among them.
 record Faultless (table : List ℕ) (rows : ℕ) : Type 0 where
   size : Whole 8 (length table) rows
   clean : (row : ℕ) → row < rows → Clean (rowFault table row)
@@ -70,13 +71,13 @@ module _ (table : List ℕ) (h : (judging table) .number ≡ 0) where
   storeys-few : (1 ≤ storeys table) × (storeys table ≤ 3)
   storeys-few = house-storeys table (rw (row-house table) (right .clean 0 (right .size .some)))
 
-  -- No row is due after the parts row.
+  -- No row is due after the dates row.
   last : rows ≡ rowsDue table
   last = go (decLt (rowsDue table) rows)
     where
       go : Dec (rowsDue table < rows) → rows ≡ rowsDue table
       go (yes l) =
-          let after = row-after table (rowsDue table) (omega arith) (omega arith) (omega arith) (omega arith) in
+          let after = row-after table (rowsDue table) (omega arith) (omega arith) (omega arith) (omega arith) (omega arith) in
           absurd (omega (arith, rw (← after) at (right .clean (rowsDue table) l)))
       go (no l) = omega (arith, right .reaches)
 
@@ -91,6 +92,11 @@ module _ (table : List ℕ) (h : (judging table) .number ≡ 0) where
 
   parts-clean : Clean (partsFault table (partsRow table))
   parts-clean = rw (row-parts table (partsRow table) (omega arith) (omega arith) (omega arith) refl) (right .clean (partsRow table) (omega (arith, right .reaches)))
+
+  dates-clean : Clean (datesFault table (datesRow table))
+  dates-clean =
+      rw (row-dates table (datesRow table) (omega arith) (omega arith) (omega arith) (omega arith) refl)
+      (right .clean (datesRow table) (omega (arith, right .reaches)))
 
   -- A wall row's three tests.
   wall-tests : (row : ℕ) → firstWall table ≤ row → row < partsRow table
@@ -129,6 +135,37 @@ module _ (table : List ℕ) (h : (judging table) .number ≡ 0) where
         omega (arith, eqb-false present 0 (test-clean (eqb present 0) _ (omega arith) (two .1))),
       )
 
+  abbrev date : ℕ → ℕ
+  date column = cell table (datesRow table) column
+
+  a-day : (column number : ℕ) → Clean (test (not (isDay (date column))) (fault no-such-day number)) → isDay (date column) ≡ true
+  a-day column number clean = not-false (isDay (date column)) (test-clean (not (isDay (date column))) _ (omega arith) clean)
+
+  days-tests : Clean (daysFault table (datesRow table)) → (isDay (date 1) ≡ true) × (isDay (date 2) ≡ true) × (isDay (date 3) ≡ true)
+  unfolding daysFault
+  days-tests clean =
+      let three = then-clean (test (not (isDay (date 1))) (fault no-such-day 2)) _ clean in
+      let two = then-clean (test (not (isDay (date 2))) (fault no-such-day 3)) _ (three .1) in
+      (a-day 1 2 (three .0), a-day 2 3 (two .0), a-day 3 4 (two .1))
+
+  order-tests : Clean (orderFault table (datesRow table)) → (date 1 ≤ date 2) × (date 2 ≤ date 3)
+  unfolding orderFault
+  order-tests clean =
+      let two = then-clean (test (ltb (date 2) (date 1)) (fault dates-out-of-order 3)) _ clean in (
+        ltb-false (date 2) (date 1) (test-clean (ltb (date 2) (date 1)) _ (omega arith) (two .0)),
+        ltb-false (date 3) (date 2) (test-clean (ltb (date 3) (date 2)) _ (omega arith) (two .1)),
+      )
+
+  dates-tests :
+      Inside datesColumns table (datesRow table)
+      × ((isDay (date 1) ≡ true) × (isDay (date 2) ≡ true) × (isDay (date 3) ≡ true))
+      × ((date 1 ≤ date 2) × (date 2 ≤ date 3))
+  unfolding datesFault
+  dates-tests =
+      let three = then-clean (columnsFault 1 datesColumns table (datesRow table)) _ dates-clean in
+      let two = then-clean (daysFault table (datesRow table)) _ (three .1) in
+      (columns-inside 1 datesColumns table (datesRow table) (three .0), days-tests (two .0), order-tests (two .1))
+
   -- Not too many walls: the first that is too many would have a fault.
   walls-few : wallRows table ≤ mostWalls
   walls-few = go (decLt mostWalls (wallRows table))
@@ -158,6 +195,9 @@ module _ (table : List ℕ) (h : (judging table) .number ≡ 0) where
     parts-inside = parts-tests .0;
     marks-present = parts-tests .1;
     some-present = parts-tests .2;
+    dates-inside = dates-tests .0;
+    days = dates-tests .1;
+    in-order = dates-tests .2;
   }
 
   -- The answer counts every row.
@@ -209,19 +249,30 @@ module _ (table : List ℕ) (a : Accepted table) where
       (eqb-true (bitAnd (cell table row 2) (cell table row 1)) (cell table row 2) (a .marks-present)) (λ e. omega (arith, a .some-present))
       ∙ row-parts table row (omega arith) (omega (arith, storeys-known)) (omega arith) refl
 
+  dates-clear : none ≡ rowFault table (datesRow table)
+  dates-clear =
+      let row = datesRow table in
+      dates-order table row (inside-columns 1 datesColumns table row (omega arith) (a .dates-inside)) (le-refl 0)
+      (days-right table row (a .days .0) (a .days .1) (a .days .2)) (le-refl 0) (order-right table row (a .in-order .0) (a .in-order .1))
+      ∙ row-dates table row (omega arith) (omega (arith, storeys-known)) (omega arith) (omega arith) refl
+
   all-clear : (row : ℕ) → row < rowsDue table → none ≡ rowFault table row
-  all-clear row h = go (decLt 0 row) (decLt (storeys table) row) (decLt row (firstWall table)) (decLt row (partsRow table))
+  all-clear row h = go (decLt 0 row) (decLt (storeys table) row) (decLt row (firstWall table)) (decLt row (partsRow table)) (decLt (partsRow table) row)
     where
-      go : Dec (0 < row) → Dec (storeys table < row) → Dec (row < firstWall table) → Dec (row < partsRow table) → none ≡ rowFault table row
-      go (no p) _ _ _ =
+      go : Dec (0 < row) → Dec (storeys table < row) → Dec (row < firstWall table) → Dec (row < partsRow table) → Dec (partsRow table < row)
+          → none ≡ rowFault table row
+      go (no p) _ _ _ _ =
           let first : row ≡ 0 = omega arith in
           rw first house-clear
-      go (yes p) (no q) _ _ = storey-clear row p (omega arith)
-      go (yes p) (yes q) (yes r) _ = ends-clear row q r
-      go (yes p) (yes q) (no r) (yes s) = wall-clear row (omega arith) s
-      go (yes p) (yes q) (no r) (no s) =
-          let last : row ≡ partsRow table = omega arith in
-          rw last parts-clear
+      go (yes p) (no q) _ _ _ = storey-clear row p (omega arith)
+      go (yes p) (yes q) (yes r) _ _ = ends-clear row q r
+      go (yes p) (yes q) (no r) (yes s) _ = wall-clear row (omega arith) s
+      go (yes p) (yes q) (no r) (no s) (no t) =
+          let parts : row ≡ partsRow table = omega arith in
+          rw parts parts-clear
+      go (yes p) (yes q) (no r) (no s) (yes t) =
+          let last : row ≡ datesRow table = omega arith in
+          rw last dates-clear
 
   pub made-accepted : judging table ≡ counted (rowsDue table)
   made-accepted =

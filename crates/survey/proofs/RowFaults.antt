@@ -1,18 +1,19 @@
 -- What is wrong with a row of each kind, case by case in the order of its tests. Assumes nothing.
 use mathlib.Core.Path.{_≡_, refl}
-use mathlib.Core.Bool.{false}
+use mathlib.Core.Bool.{true, false}
 use mathlib.Core.List.{List}
 use Prim.Native.Nat.{ℕ, _+_, _<_, _≤_}
 use native.Mathlib.Omega.{arith}
 use lib.Dec.{lit<, eqb}
 use lib.Bits.{bitAnd}
 use borrow.Author.Tests.{eq-eqb, ne-eqb, lt-ltb, le-ltb, le-leb, lt-leb}
-use Rattle.answer.specs.Told.{row-out-of-order, out-of-range, too-many-walls, ends-exceed-storey, mark-on-absent-part, no-parts}
+use Rattle.answer.specs.Told.{row-out-of-order, out-of-range, too-many-walls, ends-exceed-storey, mark-on-absent-part, no-parts, no-such-day, dates-out-of-order}
 use Rattle.answer.specs.Length.{mostWalls}
+use Rattle.calendar.specs.Days.{isDay}
 use Rattle.survey.specs.declared.fault.Fault.{Fault}
-use Rattle.survey.specs.Table.{cell, storeys, endsStorey, firstWall, partsRow}
-use Rattle.survey.specs.Ranges.{endsColumns, wallColumns, partsColumns}
-use Rattle.survey.specs.Judgement.{fault, none, wrongColumn, columnsFault, endsFault, storeyBefore, wallFault, within, partsFault, houseFault, storeyFault, rowFault}
+use Rattle.survey.specs.Table.{cell, storeys, endsStorey, firstWall, partsRow, datesRow}
+use Rattle.survey.specs.Ranges.{endsColumns, wallColumns, partsColumns, datesColumns}
+use Rattle.survey.specs.Judgement.{fault, none, wrongColumn, columnsFault, endsFault, storeyBefore, wallFault, within, partsFault, daysFault, orderFault, datesFault, houseFault, storeyFault, rowFault}
 use Rattle.survey.proofs.Faults.{found, passed, held, clear, test-finds, test-passes}
 
 gt-eqb : (row : ℕ) → 0 < row → eqb row 0 ≡ false
@@ -85,6 +86,54 @@ module _ (table : List ℕ) (row : ℕ) {f : Fault} where
         unfolding partsFault within
         parts-right h = passed _ _ ranged clean (test-passes _ _ (rw (eq-eqb _ _ all)) (clear _ (ne-eqb _ _ h)))
 
+-- The dates of a row, from the left: the first that is no day,
+module _ (table : List ℕ) (row : ℕ) where
+  pub start-no-day : isDay (cell table row 1) ≡ false → fault no-such-day 2 ≡ daysFault table row
+  unfolding daysFault
+  start-no-day e = test-finds _ _ (rw e) (lit< tt)
+
+  module _ (start : isDay (cell table row 1) ≡ true) where
+    pub completion-no-day : isDay (cell table row 2) ≡ false → fault no-such-day 3 ≡ daysFault table row
+    unfolding daysFault
+    completion-no-day e = test-passes _ _ (rw start) (test-finds _ _ (rw e) (lit< tt))
+
+    module _ (completion : isDay (cell table row 2) ≡ true) where
+      pub survey-no-day : isDay (cell table row 3) ≡ false → fault no-such-day 4 ≡ daysFault table row
+      unfolding daysFault
+      survey-no-day e = test-passes _ _ (rw start) (test-passes _ _ (rw completion) (held _ (rw e)))
+
+      pub days-right : isDay (cell table row 3) ≡ true → none ≡ daysFault table row
+      unfolding daysFault
+      days-right e = test-passes _ _ (rw start) (test-passes _ _ (rw completion) (clear _ (rw e)))
+
+  -- and the first that is before the one to its left.
+  pub completion-early : cell table row 2 < cell table row 1 → fault dates-out-of-order 3 ≡ orderFault table row
+  unfolding orderFault
+  completion-early h = test-finds _ _ (lt-ltb _ _ h) (lit< tt)
+
+  module _ (started : cell table row 1 ≤ cell table row 2) where
+    pub survey-early : cell table row 3 < cell table row 2 → fault dates-out-of-order 4 ≡ orderFault table row
+    unfolding orderFault
+    survey-early h = test-passes _ _ (le-ltb _ _ started) (held _ (lt-ltb _ _ h))
+
+    pub order-right : cell table row 2 ≤ cell table row 3 → none ≡ orderFault table row
+    unfolding orderFault
+    order-right h = test-passes _ _ (le-ltb _ _ started) (clear _ (le-ltb _ _ h))
+
+  module _ {f : Fault} (ranged : f ≡ columnsFault 1 datesColumns table row) where
+    pub dates-columns : 0 < f .number → f ≡ datesFault table row
+    unfolding datesFault
+    dates-columns h = found _ _ ranged h
+
+    module _ (clean : f .number ≤ 0) {g : Fault} (days : g ≡ daysFault table row) where
+      pub dates-no-day : 0 < g .number → g ≡ datesFault table row
+      unfolding datesFault
+      dates-no-day h = passed _ _ ranged clean (found _ _ days h)
+
+      pub dates-order : g .number ≤ 0 → {last : Fault} → last ≡ orderFault table row → last ≡ datesFault table row
+      unfolding datesFault
+      dates-order h e = passed _ _ ranged clean (passed _ _ days h e)
+
 -- A row by the place where it stands.
 pub row-house : (table : List ℕ) → houseFault table ≡ rowFault table 0
 unfolding rowFault
@@ -116,13 +165,27 @@ module _ (table : List ℕ) (row : ℕ) (later : 0 < row) where
             eq-eqb row (partsRow table) h,
           )
 
-      pub row-after : partsRow table < row → fault row-out-of-order 1 ≡ rowFault table row
-      unfolding rowFault
-      row-after h =
-          rw (
-            gt-eqb row later,
-            lt-leb row (storeys table) above,
-            le-ltb row (firstWall table) past,
-            le-ltb row (partsRow table) (omega arith),
-            ne-eqb row (partsRow table) (λ e. omega arith),
-          )
+      module _ (past-parts : partsRow table < row) where
+        pub row-dates : row ≡ datesRow table → datesFault table row ≡ rowFault table row
+        unfolding rowFault
+        row-dates h =
+            rw (
+              gt-eqb row later,
+              lt-leb row (storeys table) above,
+              le-ltb row (firstWall table) past,
+              le-ltb row (partsRow table) (omega arith),
+              ne-eqb row (partsRow table) (λ e. omega arith),
+              eq-eqb row (datesRow table) h,
+            )
+
+        pub row-after : datesRow table < row → fault row-out-of-order 1 ≡ rowFault table row
+        unfolding rowFault
+        row-after h =
+            rw (
+              gt-eqb row later,
+              lt-leb row (storeys table) above,
+              le-ltb row (firstWall table) past,
+              le-ltb row (partsRow table) (omega arith),
+              ne-eqb row (partsRow table) (λ e. omega arith),
+              ne-eqb row (datesRow table) (λ e. omega arith),
+            )

@@ -41,5 +41,6 @@ pub record Accepted (table : List ℕ) : Type 0 where
   pub marks-present : within (cell table (partsRow table) 2) (cell table (partsRow table) 1) ≡ true
   pub some-present : 0 < cell table (partsRow table) 1
   -- Start of work, completion and survey day are days, and none is before the one to its left.
-  pub days : (column : ℕ) → 1 ≤ column → column ≤ 3 → isDay (cell table (datesRow table) column) ≡ true
-  pub in-order : (column : ℕ) → 1 ≤ column → column < 3 → cell table (datesRow table) column ≤ cell table (datesRow table) (column + 1)
+  pub days :
+      (isDay (cell table (datesRow table) 1) ≡ true) × (isDay (cell table (datesRow table) 2) ≡ true) × (isDay (cell table (datesRow table) 3) ≡ true)
+  pub in-order : (cell table (datesRow table) 1 ≤ cell table (datesRow table) 2) × (cell table (datesRow table) 2 ≤ cell table (datesRow table) 3)

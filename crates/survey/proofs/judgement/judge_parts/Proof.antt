@@ -1,13 +1,12 @@
 -- `survey::judgement::judge_parts` meets its contract: each return is one case of judging. Assumes nothing.
 use mathlib.Core.Path.{_≡_, _∙_}
-use Prim.Native.Nat.{_+_, _<_}
+use Prim.Native.Nat.{_<_}
 use native.Mathlib.Omega.{arith}
 use denote.Ref.{now}
 use borrow.Author.Needs.{needs}
 use Rattle.survey.specs.Judgement.{rowFault}
-use Rattle.survey.specs.Internal.{JudgedTo}
-use Rattle.survey.proofs.RowFaults.{row-parts, row-after}
-use Rattle.survey.proofs.Judging.{judging-fault, judging-goes-on, judging-short, judging-accepted}
+use Rattle.survey.proofs.RowFaults.{row-parts}
+use Rattle.survey.proofs.Judging.{judging-fault, judging-goes-on, judging-short}
 use Rattle.survey.proofs.judgement.judge_parts.Statement.{statement}
 use Rattle.survey.proofs.judgement.judge_parts.Tie as tie
 
@@ -22,17 +21,12 @@ returns c =
 parts-fault-requires : tie.Need-parts-fault-requires
 parts-fault-requires c κs = search needs
 
--- The parts row's fault; and where it has none, the row after it is reached.
+-- The parts row's fault.
 at-parts : (c : tie.After-parts-fault) → let args = c .before .before .before .args in c .parts-fault .result ≡ rowFault (now (args .table)) (args .row)
 at-parts c = c .parts-fault .ensures ∙ row-parts _ _ (omega arith) (omega arith) (omega arith) (c .before .before .before .pre .1)
 
 within : (c : tie.Else1) → c .before .before .args .row < c .before .before .args .rows
 within c = omega arith
-
-past-parts : (c : tie.Else2) → let args = c .before .before .before .before .before .args in JudgedTo (now (args .table)) (args .rows) (args .row + 1)
-past-parts c =
-    let at-call = c .before .before in
-    judging-goes-on (at-call .before .before .before .pre .0) (within (at-call .before)) (at-parts at-call) (c .if2 .left)
 
 refused-requires : tie.Need-refused-requires
 refused-requires c κs = search needs
@@ -42,22 +36,19 @@ returns-2 c =
     let at-call = c .before .before .before in
     c .refused .ensures ∙ judging-fault (at-call .before .before .before .pre .0) (within (at-call .before)) (at-parts at-call) (c .before .if2 .taken)
 
-add-after : tie.Need-add-after
-add-after c = search needs
+add-judge-dates : tie.Need-add-judge-dates
+add-judge-dates c = search needs
 
-out-of-order-requires-2 : tie.Need-out-of-order-requires-2
-out-of-order-requires-2 c κs = search needs
+-- Where it has none, the dates row is reached.
+judge-dates-requires : tie.Need-judge-dates-requires
+judge-dates-requires c κs =
+    let at-call = c .before .before in (
+      judging-goes-on (at-call .before .before .before .pre .0) (within (at-call .before)) (at-parts at-call) (c .if2 .left),
+      omega arith,
+    )
 
 returns-3 : tie.Need-returns-3
-returns-3 c =
-    let at-if2 = c .before .before in
-    c .out-of-order2 .ensures ∙ judging-fault (past-parts at-if2) (c .before .if3 .taken) (row-after _ _ (omega arith) (omega arith) (omega arith) (omega arith)) (omega arith)
-
-cast-count : tie.Need-cast-count
-cast-count c = search needs
-
-returns-4 : tie.Need-returns-4
-returns-4 c = judging-accepted (past-parts (c .before)) (omega (arith, within (c .before .before .before .before))) (omega arith)
+returns-3 c = c .judge-dates .ensures
 
 pub judge-parts-spec : {M : Type 1} → statement M
 judge-parts-spec =
@@ -68,8 +59,6 @@ judge-parts-spec =
     parts-fault-requires
     refused-requires
     returns-2
-    add-after
-    out-of-order-requires-2
-    returns-3
-    cast-count
-    returns-4)
+    add-judge-dates
+    judge-dates-requires
+    returns-3)
