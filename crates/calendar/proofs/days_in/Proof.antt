@@ -1,51 +1,31 @@
+-- `days_in` is what its definition says. Assumes nothing.
+use mathlib.Core.Path.{_∙_, sym}
+use mathlib.Core.Logic.{⊎-elim}
 use borrow.Author.Needs.{needs}
+use Rattle.calendar.proofs.Months.{days-none, days-leap, days-common, days-other}
 use Rattle.calendar.proofs.days_in.Statement.{statement}
 use Rattle.calendar.proofs.days_in.Tie as tie
-use Rattle.calendar.proofs.days_in.Reads as reads
-use Rattle.calendar.proofs.days_in.Lts as lts
-use Rattle.calendar.proofs.is_leap.Reads as is-leap-reads
 
--- src/lib.rt:31:12
+returns : tie.Need-returns
+returns c = days-none _ _ (c .if1 .taken)
+
 is-leap-requires : tie.Need-is-leap-requires
 is-leap-requires c κs = search needs
 
--- src/lib.rt:32:13
-returns : tie.Need-returns
-returns c = ?
-
--- src/lib.rt:36:9
 returns-2 : tie.Need-returns-2
-returns-2 c = ?
+returns-2 c = days-leap _ _ (c .before .before .if2 .taken) (sym (c .before .is-leap .ensures) ∙ c .if3 .taken)
 
--- src/lib.rt:39:9
-returns-3 : tie.Need-returns-3
-returns-3 c = ?
-
--- src/lib.rt:41:19
-sub-result : tie.Need-sub-result
-sub-result c = search needs
-
--- src/lib.rt:41:5
 mul-result : tie.Need-mul-result
 mul-result c = search needs
 
--- src/lib.rt:41:5
 array-read-result : tie.Need-array-read-result
 array-read-result c = search needs
 
--- src/lib.rt:27:1
-returns-4 : tie.Need-returns-4
-returns-4 c = ?
+-- The month is February and the year no leap year, or the month is another.
+returns-3 : tie.Need-returns-3
+returns-3 c =
+    ⊎-elim (λ february. days-common _ _ (sym (february .1 .ensures) ∙ february .2 .left)) (λ other. days-other _ _ (other .left)) (c .if2 .came)
 
 pub days-in-spec : {M : Type 1} → statement M
 days-in-spec =
-    tie.close
-    (tie.spec
-    is-leap-requires
-    returns
-    returns-2
-    returns-3
-    sub-result
-    mul-result
-    array-read-result
-    returns-4)
+    tie.close (tie.spec returns is-leap-requires returns-2 mul-result array-read-result returns-3)

@@ -1,19 +1,20 @@
+-- `is_leap` is what its definition says. Assumes nothing.
+use borrow.Author.Tests.{eq-eqb, ne-eqb}
+use Rattle.calendar.specs.Days.{isLeap}
 use Rattle.calendar.proofs.is_leap.Statement.{statement}
 use Rattle.calendar.proofs.is_leap.Tie as tie
-use Rattle.calendar.proofs.is_leap.Reads as reads
-use Rattle.calendar.proofs.is_leap.Lts as lts
 
--- src/lib.rt:18:9
 returns : tie.Need-returns
-returns c = ?
+unfolding isLeap
+returns c = rw (ne-eqb _ 0 (c .if1 .taken))
 
--- src/lib.rt:21:9
 returns-2 : tie.Need-returns-2
-returns-2 c = ?
+unfolding isLeap
+returns-2 c = rw (eq-eqb _ 0 (c .before .if1 .left), ne-eqb _ 0 (c .if2 .taken))
 
--- src/lib.rt:14:1
 returns-3 : tie.Need-returns-3
-returns-3 c = ?
+unfolding isLeap
+returns-3 c = rw (eq-eqb _ 0 (c .before .if1 .left), eq-eqb _ 0 (c .if2 .left))
 
 pub is-leap-spec : {M : Type 1} → statement M
 is-leap-spec = tie.close (tie.spec returns returns-2 returns-3)
