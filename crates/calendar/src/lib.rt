@@ -7,8 +7,8 @@
 ghost use mathlib.Core.Path.{_≡_};
 ghost use Rattle.calendar.specs.Days.{isLeap, daysIn, isDate, isDay, tenYearsAfter, ageOn};
 
-// The days of January to December, where February has no 29th.
-const MONTH_LENGTHS: [u32; 12] = [31, 28, 31, 30, 31, 30, 31, 31, 30, 31, 30, 31];
+// The days of January to December, where February has no 29th. Months count from 1.
+const MONTH_LENGTHS: [u32; 13] = [0, 31, 28, 31, 30, 31, 30, 31, 31, 30, 31, 30, 31];
 
 // Whether February has a 29th in a year: 1900 is no leap year, and 2000 is one.
 fn is_leap(year: u32) -> bool
@@ -27,18 +27,15 @@ fn is_leap(year: u32) -> bool
 fn days_in(year: u32, month: u32) -> u32
     ensures { λ r. ⌜ r ≡ daysIn year month ⌝ }
 {
+    if 12 < month {
+        return 0;
+    }
     if month == 2 {
         if is_leap(year) {
             return 29;
         }
     }
-    if month == 0 {
-        return 0;
-    }
-    if 12 < month {
-        return 0;
-    }
-    MONTH_LENGTHS[month as usize - 1]
+    MONTH_LENGTHS[month as usize]
 }
 
 // Whether a month of a year has such a day.
