@@ -21,7 +21,7 @@ use Rattle.answer.proofs.Lengths.{rows-whole}
 use Rattle.calendar.specs.Days.{isDay}
 use Rattle.survey.specs.Table.{cell, storeys, endsStorey, firstWall, wallRows, partsRow, datesRow, rowsDue}
 use Rattle.survey.specs.Ranges.{zone, houseColumns, storeyColumns, endsColumns, wallColumns, partsColumns, datesColumns}
-use Rattle.survey.specs.Judgement.{fault, none, faulty, test, _then_, columnsFault, houseFault, storeyFault, endsFault, storeyBefore, wallFault, within, partsFault, daysFault, orderFault, datesFault, rowFault, judging}
+use Rattle.survey.specs.Judgement.{fault, none, faulty, test, _then_, columnsFault, houseFault, storeyFault, endsFault, storeyBefore, wallFault, within, partsFault, noSuchDay, daysFault, orderFault, datesFault, rowFault, judging}
 use Rattle.survey.specs.Acceptance.{Inside, Accepted}
 use Rattle.survey.specs.Internal.{JudgedTo}
 use Rattle.survey.proofs.Faults.{not-faulty}
@@ -138,14 +138,14 @@ module _ (table : List ℕ) (h : (judging table) .number ≡ 0) where
   abbrev date : ℕ → ℕ
   date column = cell table (datesRow table) column
 
-  a-day : (column number : ℕ) → Clean (test (not (isDay (date column))) (fault no-such-day number)) → isDay (date column) ≡ true
-  a-day column number clean = not-false (isDay (date column)) (test-clean (not (isDay (date column))) _ (omega arith) clean)
+  a-day : (column number : ℕ) → Clean (test (noSuchDay table (datesRow table) column) (fault no-such-day number)) → isDay (date column) ≡ true
+  a-day column number clean = not-false (isDay (date column)) (test-clean (noSuchDay table (datesRow table) column) _ (omega arith) clean)
 
   days-tests : Clean (daysFault table (datesRow table)) → (isDay (date 1) ≡ true) × (isDay (date 2) ≡ true) × (isDay (date 3) ≡ true)
   unfolding daysFault
   days-tests clean =
-      let three = then-clean (test (not (isDay (date 1))) (fault no-such-day 2)) _ clean in
-      let two = then-clean (test (not (isDay (date 2))) (fault no-such-day 3)) _ (three .1) in
+      let three = then-clean (test (noSuchDay table (datesRow table) 1) (fault no-such-day 2)) _ clean in
+      let two = then-clean (test (noSuchDay table (datesRow table) 2) (fault no-such-day 3)) _ (three .1) in
       (a-day 1 2 (three .0), a-day 2 3 (two .0), a-day 3 4 (two .1))
 
   order-tests : Clean (orderFault table (datesRow table)) → (date 1 ≤ date 2) × (date 2 ≤ date 3)
@@ -253,7 +253,7 @@ module _ (table : List ℕ) (a : Accepted table) where
   dates-clear =
       let row = datesRow table in
       dates-order table row (inside-columns 1 datesColumns table row (omega arith) (a .dates-inside)) (le-refl 0)
-      (days-right table row (a .days .0) (a .days .1) (a .days .2)) (le-refl 0) (order-right table row (a .in-order .0) (a .in-order .1))
+      (days-right table row (rw (a .days .0)) (rw (a .days .1)) (rw (a .days .2))) (le-refl 0) (order-right table row (a .in-order .0) (a .in-order .1))
       ∙ row-dates table row (omega arith) (omega (arith, storeys-known)) (omega arith) (omega arith) refl
 
   all-clear : (row : ℕ) → row < rowsDue table → none ≡ rowFault table row

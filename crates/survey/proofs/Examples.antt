@@ -1,6 +1,6 @@
 -- The definitions worked through, by computation: document 01's P1 and a house of two storeys are accepted, where their rows stand, which
 -- walls each storey has, and a table for each refusal. Assumes nothing.
-use mathlib.Core.Path.{_≡_, refl, ap}
+use mathlib.Core.Path.{_≡_, refl, sym, ap}
 use mathlib.Core.Bool.{true}
 use mathlib.Core.List.{[], _∷_, _++_, map}
 use Prim.Native.Nat.{ℕ, _%_, _<_, _≤_, zero-le}
@@ -17,10 +17,13 @@ use Rattle.answer.specs.Length.{rowsIn}
 use Rattle.calendar.specs.Days.{isLeap, daysIn, isDate, isDay}
 use Rattle.survey.specs.Table.{cell, storeys, firstEnds, endsRow, endsStorey, endsDirection, firstWall, wallRows, partsRow, datesRow, rowsDue}
 use Rattle.survey.specs.Ranges as ranges
-use Rattle.survey.specs.Judgement.{none, _then_, test, outside, leftmost, wrongColumn, houseFault, storeyFault, endsFault, storeyBefore, wallFault, within, partsFault, daysFault, orderFault, datesFault, rowFault, judging}
+use Rattle.survey.specs.Judgement.{none, faulty, _then_, test, outside, leftmost, wrongColumn, houseFault, storeyFault, endsFault, storeyBefore, wallFault, within, partsFault, daysFault, orderFault, datesFault, rowFault, judging}
 use Rattle.survey.specs.Acceptance.{Accepted}
 use Rattle.survey.specs.Walls.{rowsFrom, rowsWhere, isWallOf, storeyWalls, runStart, runLength, storeyRun}
 use Rattle.survey.specs.Worked.{groundWalls, upperWalls, ofStoreys}
+use Rattle.survey.specs.Internal.{JudgedTo}
+use Rattle.answer.proofs.Places.{before-first}
+use Rattle.survey.proofs.Judging.{judging-accepted}
 use Rattle.survey.proofs.Acceptance.{accepted, made-accepted}
 use Rattle.survey.proofs.StoreyWalls.{run-is-walls, walls-refused, walls-lacking}
 
@@ -40,7 +43,7 @@ pub dates-told :
     map judging (
     take 88 p1
     ∷ set p1 6 2
-    ∷ p1 ++ (8 ∷ 19800401 ∷ 19801001 ∷ 20120401 ∷ 0 ∷ 0 ∷ 0 ∷ 0 ∷ [])
+    ∷ (p1 ++ (8 ∷ 19800401 ∷ 19801001 ∷ 20120401 ∷ 0 ∷ 0 ∷ 0 ∷ 0 ∷ []))
     ∷ set p1 91 21991232
     ∷ set p1 89 20010231
     ∷ set (set p1 89 20010231) 95 1
@@ -89,10 +92,25 @@ module _ (weight zone ground surveyDay marked : ℕ) where
   dates-clean s =
       rw (le-ltb surveyDay 19000101 (omega arith), le-ltb 21991231 surveyDay (s .2), built .0, built .1, s .0, le-ltb surveyDay 19980401 (s .1))
 
+  all-clean : (1 ≤ weight) × (weight ≤ 3) → ranges.zone zone ≡ zone → (1 ≤ ground) × (ground ≤ 2) → Surveyed surveyDay → marked ≤ 8191
+      → first (λ row. faulty (rowFault (twoStoreys weight zone ground surveyDay marked) row)) 15 ≡ 15
+  unfolding first rowFault storeyFault endsFault wallFault wallRows storeyBefore wrongColumn leftmost outside test _then_
+  all-clean w z g s m = rw (house-clean w z g, parts-clean m, dates-clean s)
+
+  rows-due : rowsDue (twoStoreys weight zone ground surveyDay marked) ≤ 15
+  unfolding wallRows first
+  rows-due = lit≤ tt
+
   pub two-judged : (1 ≤ weight) × (weight ≤ 3) → ranges.zone zone ≡ zone → (1 ≤ ground) × (ground ≤ 2) → Surveyed surveyDay → marked ≤ 8191
       → judging (twoStoreys weight zone ground surveyDay marked) ≡ counted 15
-  unfolding judging rowsIn first rowFault storeyFault endsFault wallFault wallRows storeyBefore wrongColumn leftmost outside test _then_
-  two-judged w z g s m = rw (house-clean w z g, parts-clean m, dates-clean s)
+  two-judged w z g s m =
+      let house = twoStoreys weight zone ground surveyDay marked in
+      let judged : JudgedTo house 15 15 = record {
+        size = record { some = lit≤ tt; most = lit≤ tt; whole = refl };
+        reached = le-refl 15;
+        clean = λ row l. before-first (λ i. faulty (rowFault house i)) 15 row (rw (all-clean w z g s m) l);
+      } in
+      sym (judging-accepted judged refl rows-due)
 
 -- Document 01's zones.
 pub zones-known : (ranges.zone 70 ≡ 70) × (ranges.zone 80 ≡ 80) × (ranges.zone 90 ≡ 90) × (ranges.zone 100 ≡ 100)

@@ -18,7 +18,7 @@ use Rattle.survey.specs.Table.{rowsDue}
 use Rattle.survey.specs.Judgement.{fault, faulty, _then_, test, wrongColumn, houseFault, storeyFault, endsFault, wallFault, partsFault, daysFault, orderFault, datesFault, rowFault, judging}
 
 -- One of those numbers, and a fault of one of them, or none.
-tellable : ℕ → Bool
+abbrev tellable : ℕ → Bool
 tellable number = leb number dates-out-of-order && not (eqb number lent-space-short)
 
 record Known (f : Fault) : Type 0 where

@@ -9,11 +9,10 @@ use lib.Bits.{bitAnd}
 use borrow.Author.Tests.{eq-eqb, ne-eqb, lt-ltb, le-ltb, le-leb, lt-leb}
 use Rattle.answer.specs.Told.{row-out-of-order, out-of-range, too-many-walls, ends-exceed-storey, mark-on-absent-part, no-parts, no-such-day, dates-out-of-order}
 use Rattle.answer.specs.Length.{mostWalls}
-use Rattle.calendar.specs.Days.{isDay}
 use Rattle.survey.specs.declared.fault.Fault.{Fault}
 use Rattle.survey.specs.Table.{cell, storeys, endsStorey, firstWall, partsRow, datesRow}
 use Rattle.survey.specs.Ranges.{endsColumns, wallColumns, partsColumns, datesColumns}
-use Rattle.survey.specs.Judgement.{fault, none, wrongColumn, columnsFault, endsFault, storeyBefore, wallFault, within, partsFault, daysFault, orderFault, datesFault, houseFault, storeyFault, rowFault}
+use Rattle.survey.specs.Judgement.{fault, none, wrongColumn, columnsFault, endsFault, storeyBefore, wallFault, within, partsFault, noSuchDay, daysFault, orderFault, datesFault, houseFault, storeyFault, rowFault}
 use Rattle.survey.proofs.Faults.{found, passed, held, clear, test-finds, test-passes}
 
 gt-eqb : (row : ℕ) → 0 < row → eqb row 0 ≡ false
@@ -88,23 +87,23 @@ module _ (table : List ℕ) (row : ℕ) {f : Fault} where
 
 -- The dates of a row, from the left: the first that is no day,
 module _ (table : List ℕ) (row : ℕ) where
-  pub start-no-day : isDay (cell table row 1) ≡ false → fault no-such-day 2 ≡ daysFault table row
+  pub start-no-day : noSuchDay table row 1 ≡ true → fault no-such-day 2 ≡ daysFault table row
   unfolding daysFault
-  start-no-day e = test-finds _ _ (rw e) (lit< tt)
+  start-no-day e = test-finds _ _ e (lit< tt)
 
-  module _ (start : isDay (cell table row 1) ≡ true) where
-    pub completion-no-day : isDay (cell table row 2) ≡ false → fault no-such-day 3 ≡ daysFault table row
+  module _ (start : noSuchDay table row 1 ≡ false) where
+    pub completion-no-day : noSuchDay table row 2 ≡ true → fault no-such-day 3 ≡ daysFault table row
     unfolding daysFault
-    completion-no-day e = test-passes _ _ (rw start) (test-finds _ _ (rw e) (lit< tt))
+    completion-no-day e = test-passes _ _ start (test-finds _ _ e (lit< tt))
 
-    module _ (completion : isDay (cell table row 2) ≡ true) where
-      pub survey-no-day : isDay (cell table row 3) ≡ false → fault no-such-day 4 ≡ daysFault table row
+    module _ (completion : noSuchDay table row 2 ≡ false) where
+      pub survey-no-day : noSuchDay table row 3 ≡ true → fault no-such-day 4 ≡ daysFault table row
       unfolding daysFault
-      survey-no-day e = test-passes _ _ (rw start) (test-passes _ _ (rw completion) (held _ (rw e)))
+      survey-no-day e = test-passes _ _ start (test-passes _ _ completion (held _ e))
 
-      pub days-right : isDay (cell table row 3) ≡ true → none ≡ daysFault table row
+      pub days-right : noSuchDay table row 3 ≡ false → none ≡ daysFault table row
       unfolding daysFault
-      days-right e = test-passes _ _ (rw start) (test-passes _ _ (rw completion) (clear _ (rw e)))
+      days-right e = test-passes _ _ start (test-passes _ _ completion (clear _ e))
 
   -- and the first that is before the one to its left.
   pub completion-early : cell table row 2 < cell table row 1 → fault dates-out-of-order 3 ≡ orderFault table row

@@ -86,11 +86,14 @@ partsFault table row =
     then test (eqb (cell table row 1) 0) (fault no-parts 2)
 
 -- "Refused: 10 no such day (leftmost column), 11 a date before the one to its left (leftmost such column; equal days are fine)".
+abbrev pub noSuchDay : List ℕ → ℕ → ℕ → Bool
+noSuchDay table row column = not (isDay (cell table row column))
+
 unfoldable pub daysFault : List ℕ → ℕ → Fault
 daysFault table row =
-    test (not (isDay (cell table row 1))) (fault no-such-day 2)
-    then test (not (isDay (cell table row 2))) (fault no-such-day 3)
-    then test (not (isDay (cell table row 3))) (fault no-such-day 4)
+    test (noSuchDay table row 1) (fault no-such-day 2)
+    then test (noSuchDay table row 2) (fault no-such-day 3)
+    then test (noSuchDay table row 3) (fault no-such-day 4)
 
 unfoldable pub orderFault : List ℕ → ℕ → Fault
 orderFault table row =

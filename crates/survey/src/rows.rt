@@ -29,7 +29,7 @@ ghost use Prim.Native.Nat.{_<_, _≤_, _+_, _*_};
 ghost use lib.ListN.{length};
 ghost use Rattle.survey.specs.Table.{cell, firstWall};
 ghost use Rattle.survey.specs.Ranges.{zone, isOpening, wallColumns};
-ghost use Rattle.survey.specs.Judgement.{columnsFault, houseFault, storeyFault, endsFault, storeyBefore, wallFault, partsFault, daysFault, orderFault, datesFault};
+ghost use Rattle.survey.specs.Judgement.{columnsFault, houseFault, storeyFault, endsFault, storeyBefore, wallFault, partsFault, noSuchDay, daysFault, orderFault, datesFault};
 
 // The zone of that number; 100 where no zone has it.
 fn zone(number: u32) -> u32
@@ -210,17 +210,24 @@ const FIRST_DAY: u32 = 19_000_101;
 
 const LAST_DAY: u32 = 21_991_231;
 
+// Whether the number in a row and a column is no day.
+fn no_such_day(table: &[u32], row: usize, column: usize) -> bool
+    ensures { λ r. ⌜ r ≡ noSuchDay (now (table .entry)) row column ⌝ }
+{
+    !is_day(cell(table, row, column))
+}
+
 // Refusal 10 for a dates row, at the leftmost date that is no day.
 fn days_fault(table: &[u32], row: usize) -> Fault
     ensures { λ r. ⌜ r ≡ daysFault (now (table .entry)) row ⌝ }
 {
-    if !is_day(cell(table, row, START_OF_WORK)) {
+    if no_such_day(table, row, START_OF_WORK) {
         return fault_at(NO_SUCH_DAY, 2);
     }
-    if !is_day(cell(table, row, COMPLETION)) {
+    if no_such_day(table, row, COMPLETION) {
         return fault_at(NO_SUCH_DAY, 3);
     }
-    if !is_day(cell(table, row, SURVEY_DAY)) {
+    if no_such_day(table, row, SURVEY_DAY) {
         return fault_at(NO_SUCH_DAY, 4);
     }
     no_fault()

@@ -1,47 +1,54 @@
+-- `survey::rows::order_fault` meets its contract: each return is a test in its order. Assumes nothing.
+use mathlib.Core.Path.{_∙_}
+use Prim.Native.Nat.{_≤_}
+use denote.Ref.{now}
 use borrow.Author.Needs.{needs}
+use Rattle.survey.specs.Table.{cell}
+use Rattle.survey.proofs.RowFaults.{completion-early, survey-early, order-right}
 use Rattle.survey.proofs.rows.order_fault.Statement.{statement}
 use Rattle.survey.proofs.rows.order_fault.Tie as tie
-use Rattle.survey.proofs.rows.order_fault.Reads as reads
-use Rattle.survey.proofs.rows.order_fault.Lts as lts
-use Rattle.survey.proofs.fault.fault_at.Reads as fault-at-reads
-use Rattle.survey.proofs.fault.no_fault.Reads as no-fault-reads
-use Rattle.survey.proofs.table.cell.Reads as cell-reads
 
--- src/rows.rt:233:9
 cell-requires : tie.Need-cell-requires
 cell-requires c κs = search needs
 
--- src/rows.rt:234:21
 cell-requires-2 : tie.Need-cell-requires-2
 cell-requires-2 c κs = search needs
 
--- src/rows.rt:235:9
 fault-at-requires : tie.Need-fault-at-requires
 fault-at-requires c κs = search needs
 
--- src/rows.rt:235:9
 returns : tie.Need-returns
-returns c = ?
+returns c =
+    let at-start = c .before .before in
+    c .fault-at .ensures ∙ completion-early _ _ (rw (← at-start .before .cell .ensures, ← at-start .cell2 .ensures) (c .before .if1 .taken))
 
--- src/rows.rt:237:8
+-- Completion is not before the start of work.
+started : (c : tie.Else1)
+    → let args = c .before .before .before .before .args in cell (now (args .table)) (args .row) 1 ≤ cell (now (args .table)) (args .row) 2
+started c = rw (← c .before .before .cell .ensures, ← c .before .cell2 .ensures) (c .if1 .left)
+
 cell-requires-3 : tie.Need-cell-requires-3
 cell-requires-3 c κs = search needs
 
--- src/rows.rt:238:9
 fault-at-requires-2 : tie.Need-fault-at-requires-2
 fault-at-requires-2 c κs = search needs
 
--- src/rows.rt:238:9
 returns-2 : tie.Need-returns-2
-returns-2 c = ?
+returns-2 c =
+    let at-survey = c .before .before in
+    let at-if1 = at-survey .before in
+    c .fault-at2 .ensures
+    ∙ survey-early _ _ (started at-if1) (rw (← at-if1 .before .before .cell .ensures, ← at-survey .cell3 .ensures) (c .before .if2 .taken))
 
--- src/rows.rt:240:5
 no-fault-requires : tie.Need-no-fault-requires
 no-fault-requires c κs = search needs
 
--- src/rows.rt:230:1
 returns-3 : tie.Need-returns-3
-returns-3 c = ?
+returns-3 c =
+    let at-survey = c .before .before in
+    let at-if1 = at-survey .before in
+    c .no-fault .ensures
+    ∙ order-right _ _ (started at-if1) (rw (← at-if1 .before .before .cell .ensures, ← at-survey .cell3 .ensures) (c .before .if2 .left))
 
 pub order-fault-spec : {M : Type 1} → statement M
 order-fault-spec =

@@ -1,4 +1,4 @@
--- `survey::places::parts_row` meets its contract. The loop's invariant: every row before is a wall. Assumes nothing.
+-- `survey::places::after_walls` meets its contract. The loop's invariant: every row before is a wall, and the row is not too large. Assumes nothing.
 use mathlib.Core.Path.{sym, _∙_}
 use Prim.Native.Nat.{_-_, _*_, _<_, _≤_}
 use native.Mathlib.Omega.{arith}
@@ -7,11 +7,11 @@ use denote.Ref.{now}
 use borrow.Author.Needs.{needs}
 use Rattle.survey.specs.Table.{firstWall, partsRow}
 use Rattle.survey.proofs.Positions.{wall-within, wall-before-parts, parts-row-here}
-use Rattle.survey.proofs.places.parts_row.Statement.{statement}
-use Rattle.survey.proofs.places.parts_row.Tie as tie
+use Rattle.survey.proofs.places.after_walls.Statement.{statement}
+use Rattle.survey.proofs.places.after_walls.Tie as tie
 
 abbrev Inv-loop : tie.InvT-loop
-Inv-loop table row₀ row = (firstWall table ≤ row) × (row ≤ partsRow table)
+Inv-loop table row₀ row = (firstWall table ≤ row) × (row ≤ partsRow table) × (row ≤ 4_611_686_018_427_387_904)
 
 abbrev μ-loop : tie.MeasureT-loop
 μ-loop table row₀ row = length table - row
@@ -52,15 +52,17 @@ loop-less : tie.Need-loop-less Inv-loop μ-loop
 loop-less c = omega (arith, a-wall c)
 
 loop-again : tie.Need-loop-again Inv-loop μ-loop
-loop-again c = (omega arith, omega (arith, a-wall c))
+loop-again c = (omega arith, omega (arith, a-wall c), omega (arith, a-wall c))
 
 returns : tie.Need-returns Inv-loop μ-loop
 returns c =
-    let at-loop = c .before .before in
-    parts-row-here (now (at-loop .before .before .before .args .table)) _ (at-loop .loop .inv .0) (at-loop .loop .inv .1) (sym (c .before .is-wall .ensures) ∙ c .if1 .left)
+    let at-loop = c .before .before in (
+      parts-row-here (now (at-loop .before .before .before .args .table)) _ (at-loop .loop .inv .0) (at-loop .loop .inv .1) (sym (c .before .is-wall .ensures) ∙ c .if1 .left),
+      at-loop .loop .inv .2,
+    )
 
-pub parts-row-spec : {M : Type 1} → statement M
-parts-row-spec =
+pub after-walls-spec : {M : Type 1} → statement M
+after-walls-spec =
     tie.close
     (tie.spec
     Inv-loop
