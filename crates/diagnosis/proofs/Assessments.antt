@@ -18,7 +18,7 @@ use Rattle.method.specs.Score.{cappedScore}
 use Rattle.method.proofs.Fractions.{deterioration-bounded}
 use Rattle.method.proofs.Comparisons.{capped-score}
 use Rattle.diagnosis.specs.Rows.{itemsOf, age}
-use Rattle.diagnosis.specs.House.{layout, deterioration, strengthsWith, scoreWith, scores, leastScore, houseVerdict}
+use Rattle.diagnosis.specs.House.{layout, deterioration, strengthsWith, scoreWith, scores, leastScore, houseVerdict, startedBy31May1981}
 use Rattle.diagnosis.specs.Answers.{recordOf}
 use Rattle.diagnosis.specs.Report.{resultRows, reportRows, reportLines, reportBytes, reporting, afterReporting}
 use Rattle.diagnosis.specs.Internal.{heldSums, six, storeyAt, directionAt, noSums, noAssessment, sumsIn, houseSums, AllFit, allHeld, assessmentAt, houseAssessmentWith, houseAssessment, recordBy, bytesBy, Printable, reportingBy, afterReportingBy}
@@ -76,7 +76,7 @@ module _ (table : List ℕ) (h : judging table .number ≡ 0) where
   }
 
   -- The record and the report, by how many storeys there are.
-  pub record-is : recordBy (houseAssessment table) ≡ recordOf table
+  pub record-is : recordBy (houseAssessment table) (startedBy31May1981 table) ≡ recordOf table
   unfolding houseAssessmentWith houseSums sumsIn six recordOf houseVerdict leastScore scores joined over
   record-is = by-storeys (storeys table) (storeys-few table h .1) (λ e. simp e) (λ e. simp e) (λ e. simp e) (λ e. simp e)
 

@@ -9,7 +9,8 @@ use lib.Dec.{eqb}
 use lib.Bits.{bitAnd}
 use lib.ListN.{getD}
 use borrow.Author.Tests.{ne-eqb, eqb-true}
-use Rattle.survey.specs.Table.{cell, storeys, endsRow, partsRow}
+use Rattle.calendar.proofs.Theorems.{later-no-younger}
+use Rattle.survey.specs.Table.{cell, storeys, endsRow, partsRow, datesRow}
 use Rattle.survey.specs.Judgement.{within}
 use Rattle.survey.specs.Walls.{storeyWalls}
 use Rattle.survey.specs.Acceptance.{Accepted}
@@ -24,10 +25,10 @@ use Rattle.method.proofs.Requirements as requirements
 use Rattle.method.proofs.Requirements.{narrow-least, required-rises, required-positive}
 use Rattle.method.proofs.Fractions.{deterioration-falls}
 use Rattle.method.proofs.Comparisons.{score-before-falls, full-score-falls, verdict-rises}
-use Rattle.diagnosis.specs.Rows.{foundation, snow, houseOf, storeyOf, storeyPart, endA, endB, wallOf, present, marked, itemsOf}
+use Rattle.diagnosis.specs.Rows.{foundation, snow, houseOf, storeyOf, storeyPart, endA, endB, wallOf, present, marked, itemsOf, completion, surveyDay, age}
 use Rattle.diagnosis.specs.House.{InHouse, share, held, endHeld, narrow, requiredOf, required, endRequired, endStrengths, endBand, higherBand, storeyFloorType, layout, deterioration, strengthsWith, scoreBefore, scoreWith, fullScore, scores, leastScore, houseVerdict}
 use Rattle.diagnosis.specs.Answers.{recordOf}
-use Rattle.diagnosis.specs.Comparison.{houseMayDiffer, partsMayDiffer, mayDiffer, SameOrWorse, BandKept, NoBetter}
+use Rattle.diagnosis.specs.Comparison.{houseMayDiffer, partsMayDiffer, datesMayDiffer, mayDiffer, SameOrWorse, BandKept, NoBetter}
 use Rattle.diagnosis.proofs.ScoreLists.{scores-length, score-at, record-score, record-told, least-falls, in-house-at}
 use Rattle.diagnosis.proofs.AcceptedTables.{storeys-few}
 use Rattle.diagnosis.proofs.Assessments.{lower-some}
@@ -40,32 +41,33 @@ module _ (A B : List ℕ) (w : SameOrWorse A B) where
   b = accepted B (w .B-accepted)
 
   -- What is the same in both: every column that may differ in no row,
-  column-same : (row column : ℕ) → column < 8 → houseMayDiffer column ≡ false → partsMayDiffer column ≡ false
+  column-same : (row column : ℕ) → column < 8 → houseMayDiffer column ≡ false → partsMayDiffer column ≡ false → datesMayDiffer column ≡ false
       → cell A row column ≡ cell B row column
   unfolding mayDiffer
-  column-same row column inside house parts =
-      w .same row column inside (rw (house, parts, and-false (eqb row 0), and-false (eqb row (partsRow A))))
+  column-same row column inside house parts dates =
+      w .same row column inside (rw (house, parts, dates, and-false (eqb row 0), and-false (eqb row (partsRow A)), and-false (eqb row (datesRow A))))
 
-  -- and every column of a row that is neither the house nor the parts.
-  row-same : (row column : ℕ) → (row ≡ 0 → ⊥) → (row ≡ partsRow A → ⊥) → column < 8 → cell A row column ≡ cell B row column
+  -- and every column of a row that is neither the house nor the parts nor the dates.
+  row-same : (row column : ℕ) → (row ≡ 0 → ⊥) → (row ≡ partsRow A → ⊥) → (row ≡ datesRow A → ⊥) → column < 8 → cell A row column ≡ cell B row column
   unfolding mayDiffer
-  row-same row column house parts inside = w .same row column inside (rw (ne-eqb row 0 house, ne-eqb row (partsRow A) parts))
+  row-same row column house parts dates inside =
+      w .same row column inside (rw (ne-eqb row 0 house, ne-eqb row (partsRow A) parts, ne-eqb row (datesRow A) dates))
 
   kinds-same : (row : ℕ) → cell A row 0 ≡ cell B row 0
-  kinds-same row = column-same row 0 (omega arith) refl refl
+  kinds-same row = column-same row 0 (omega arith) refl refl refl
 
   numbers-same : (row : ℕ) → cell A row 1 ≡ cell B row 1
-  numbers-same row = column-same row 1 (omega arith) refl refl
+  numbers-same row = column-same row 1 (omega arith) refl refl refl
 
   storeys-same : storeys A ≡ storeys B
   storeys-same = numbers-same 0
 
   foundation-same : foundation A ≡ foundation B
-  foundation-same = column-same 0 5 (omega arith) refl refl
+  foundation-same = column-same 0 5 (omega arith) refl refl refl
 
   -- "two compared houses have the same snow" (document 02, request 1): it is not among the columns that may differ.
   snow-same : snow A ≡ snow B
-  snow-same = column-same 0 7 (omega arith) refl refl
+  snow-same = column-same 0 7 (omega arith) refl refl refl
 
   parts-row-same : partsRow A ≡ partsRow B
   parts-row-same = parts-row-alike A B (w .rows) kinds-same numbers-same
@@ -73,12 +75,23 @@ module _ (A B : List ℕ) (w : SameOrWorse A B) where
   present-same : present A ≡ present B
   present-same = numbers-same (partsRow A) ∙ ap (λ (row : ℕ). cell B row 1) parts-row-same
 
-  -- A wall is neither the house nor the parts.
+  completion-same : completion A ≡ completion B
+  unfolding mayDiffer
+  completion-same =
+      w .same (datesRow A) 2 (omega arith) (rw (ne-eqb (datesRow A) 0 (λ e. omega arith), ne-eqb (datesRow A) (partsRow A) (λ e. omega arith), and-false (eqb (datesRow A) (datesRow A))))
+      ∙ ap (λ (row : ℕ). cell B (row + 1) 2) parts-row-same
+
+  -- The house is no younger on a later survey day.
+  age-rises : age A ≤ age B
+  age-rises = rw completion-same (later-no-younger (completion B) (surveyDay A) (surveyDay B) (w .no-lower .later))
+
+  -- A wall is neither the house nor the parts nor the dates.
   wall-same : (row column : ℕ) → cell A row 0 ≡ 4 → column < 8 → cell A row column ≡ cell B row column
   wall-same row column wall inside =
       row-same row column
       (λ e. omega (arith, a .house-inside 0 (omega arith), rw e at wall))
-      (λ e. omega (arith, a .parts-inside 0 (omega arith), rw e at wall)) inside
+      (λ e. omega (arith, a .parts-inside 0 (omega arith), rw e at wall))
+      (λ e. omega (arith, a .dates-inside 0 (omega arith), rw e at wall)) inside
 
   walls-same : (storey : ℕ) → storeyWalls A storey ≡ storeyWalls B storey
   walls-same storey = walls-alike A B (w .rows) kinds-same numbers-same (w .A-accepted) (w .B-accepted) wall-same storey
@@ -100,11 +113,11 @@ module _ (A B : List ℕ) (w : SameOrWorse A B) where
   unfolding deterioration within
   worn =
       deterioration-falls (itemsOf A) (itemsOf B) present-same (eqb-true (bitAnd (marked A) (marked B)) (marked A) (w .marks))
-      (omega (arith, w .no-lower .older))
+      age-rises
 
   module _ (storey direction : ℕ) (s : InHouse A storey direction) where
     storey-same : (column : ℕ) → column < 8 → cell A storey column ≡ cell B storey column
-    storey-same column inside = row-same storey column (λ e. omega arith) (λ e. omega arith) inside
+    storey-same column inside = row-same storey column (λ e. omega arith) (λ e. omega arith) (λ e. omega arith) inside
 
     storey-row-same : storeyOf A storey ≡ storeyOf B storey
     storey-row-same =
@@ -144,7 +157,7 @@ module _ (A B : List ℕ) (w : SameOrWorse A B) where
     -- And of an end.
     ends-same : (column : ℕ) → column < 8 → cell A (endsRow A storey direction) column ≡ cell B (endsRow B storey direction) column
     ends-same column inside =
-        row-same (endsRow A storey direction) column (λ e. omega arith) (λ e. omega arith) inside ∙ rw storeys-same
+        row-same (endsRow A storey direction) column (λ e. omega arith) (λ e. omega arith) (λ e. omega arith) inside ∙ rw storeys-same
 
     end-required : (end : ℕ) → end < 2 → endRequired A storey direction end ≤ endRequired B storey direction end
     unfolding endRequired

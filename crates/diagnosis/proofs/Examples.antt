@@ -1,10 +1,10 @@
 -- Document 01's houses worked through, from P1's sheet to its report, by computation. Assumes nothing.
 use mathlib.Core.Path.{_≡_, refl, ap}
-use mathlib.Core.List.{List, [], _∷_}
+use mathlib.Core.List.{List, [], _∷_, map}
 use Prim.Native.Nat.{ℕ, _+_, _≤_, max}
 use native.Mathlib.Nat.{le-refl}
 use lib.Dec.{lit≤}
-use lib.ListN.{getD, take, replicate}
+use lib.ListN.{getD, set, take, replicate}
 use borrow.Author.Tests.{le-ltb}
 use Rattle.answer.specs.Told.{counted, refusal}
 use Rattle.answer.specs.First.{first}
@@ -12,12 +12,13 @@ use Rattle.answer.specs.Length.{rowsIn}
 use Rattle.answer.specs.Text.{bytes}
 use Rattle.answer.specs.Houses.{p1Sheet, p1, twoStoreys}
 use Rattle.answer.specs.Lists.{joined, part, over}
+use Rattle.calendar.specs.Days.{isLeap, daysIn, isDate, isDay, tenYearsAfter, ageOn}
 use Rattle.sheet.specs.Field.{digitAfter, after, field, isNumber, value, digitOrSpace, printed}
 use Rattle.sheet.specs.Line.{line}
 use Rattle.sheet.specs.Sheet.{fieldAt, misprinted, numbersOf, reading, linesOf}
 use Rattle.survey.specs.Table.{storeys, wallRows}
 use Rattle.survey.specs.Ranges as ranges
-use Rattle.survey.specs.Judgement.{_then_, test, outside, leftmost, wrongColumn, houseFault, storeyFault, endsFault, storeyBefore, wallFault, within, partsFault, rowFault, judging}
+use Rattle.survey.specs.Judgement.{_then_, test, outside, leftmost, wrongColumn, houseFault, storeyFault, endsFault, storeyBefore, wallFault, within, partsFault, daysFault, orderFault, datesFault, rowFault, judging}
 use Rattle.survey.specs.Walls.{rowsFrom, rowsWhere, isWallOf, storeyWalls}
 use Rattle.survey.proofs.Examples.{p1-judged, zones-known}
 use Rattle.survey.proofs.Examples as survey
@@ -30,17 +31,17 @@ use Rattle.method.specs.Score.{score, scoreBeforeLayout, verdict}
 use Rattle.method.specs.Worked.{worked, expected}
 use Rattle.method.proofs.Examples.{worked-out}
 use Rattle.diagnosis.specs.Rows.{endA, endB}
-use Rattle.diagnosis.specs.House.{inDirection, solidAtEnd, held, endHeld, narrow, requiredOf, required, endRequired, endBand, higherBand, storeyFloorType, layout, deterioration, strengthsWith, scoreBefore, scoreWith, fullScore, scores, leastOf, leastScore, houseVerdict}
+use Rattle.diagnosis.specs.House.{inDirection, solidAtEnd, held, endHeld, narrow, requiredOf, required, endRequired, endBand, higherBand, storeyFloorType, layout, deterioration, strengthsWith, scoreBefore, scoreWith, fullScore, scores, leastOf, leastScore, houseVerdict, startedBy31May1981}
 use Rattle.diagnosis.specs.declared.held.HeldSums.{HeldSums}
 use Rattle.diagnosis.specs.Internal.{heldSums}
 use Rattle.diagnosis.specs.Answers.{recordOf}
 use Rattle.diagnosis.specs.Comparison.{scoreAt}
 use Rattle.diagnosis.specs.Report.{resultRows, reportRows, reportBytes, reporting, refusalLine}
 use Rattle.diagnosis.specs.Program.{mostNumbers, tableOf, diagnosing, afterDiagnosing, mostReportBytes, output}
-use Rattle.diagnosis.specs.Worked.{p1Report, p10, sound, heavy, zone100, softGround, overTen, moreMarks, allWorse, underSnow, snowySound, snowyWorse, weakJoints, figures, sameBands}
+use Rattle.diagnosis.specs.Worked.{p1Report, p10, underTenDay, tenDay, sound, heavy, zone100, softGround, overTen, moreMarks, allWorse, underSnow, snowySound, snowyWorse, weakJoints, figures, sameBands}
 
 -- P1's sheet can be read, and is P1's table.
-p1-read : reading p1Sheet mostNumbers ≡ counted 11
+p1-read : reading p1Sheet mostNumbers ≡ counted 12
 unfolding reading rowsIn first misprinted fieldAt part field after digitAfter isNumber
 p1-read = refl
 
@@ -52,8 +53,8 @@ p1-table = refl
 abbrev pub Known : ℕ → Type 0
 Known zone = ranges.zone zone ≡ zone
 
-pub p10-judged : (zone : ℕ) → Known zone → judging (p10 zone) ≡ counted 10
-unfolding judging rowsIn first rowFault houseFault storeyFault endsFault wallFault partsFault wallRows ranges.zone storeyBefore within wrongColumn leftmost outside test _then_
+pub p10-judged : (zone : ℕ) → Known zone → judging (p10 zone) ≡ counted 11
+unfolding judging rowsIn first rowFault houseFault storeyFault endsFault wallFault partsFault daysFault orderFault datesFault wallRows ranges.zone storeyBefore within wrongColumn leftmost outside test _then_ isDay isDate daysIn isLeap
 p10-judged zone known = rw (known, le-ltb zone zone (le-refl zone))
 
 -- The walls of their one storey.
@@ -67,7 +68,7 @@ p10-walls zone known = rw (p10-judged zone known)
 
 -- From the walls on all is computed. Laws below that name this one in their `unfolding` line unfold what it does.
 pub p1-scores : scores p1 ≡ 47 ∷ 83 ∷ []
-unfolding scores joined scoreWith scoreBefore layout higherBand endBand endRequired required requiredOf narrow deterioration storeyFloorType held endHeld solidAtEnd inDirection rowsFrom wallRows first nth position foundationUsed sharedRow topEntry entryIn entry interpolated rowFactor jointFactor solidShare openingShare wallShare heldStrength topLine constant snowAddition perArea groundFactor narrowFactor requiredStrength reached band floorType layoutFactor points countedMarks factorOf deteriorationFactor score
+unfolding scores joined scoreWith scoreBefore layout higherBand endBand endRequired required requiredOf narrow deterioration storeyFloorType held endHeld solidAtEnd inDirection rowsFrom wallRows first nth position foundationUsed sharedRow topEntry entryIn entry interpolated rowFactor jointFactor solidShare openingShare wallShare heldStrength topLine constant snowAddition perArea groundFactor narrowFactor requiredStrength reached band floorType layoutFactor points countedMarks factorOf deteriorationFactor score isLeap daysIn isDate tenYearsAfter ageOn
 p1-scores = rw p1-walls
 
 p1-rows : reportRows p1 ≡
@@ -133,22 +134,27 @@ houses-worked-out = λ i. (p1-diagnosed i .count ∷ []) ∷ p1-after i ∷ p1-o
 
 -- The house of two storeys is accepted, as it is and worse in one of the five numbers or in all of them.
 abbrev pub Judged : List ℕ → Type 0
-Judged table = judging table ≡ counted 14
+Judged table = judging table ≡ counted 15
 
-in-range : (weight zone ground age marked : ℕ) → 1 ≤ weight → weight ≤ 3 → Known zone → 1 ≤ ground → ground ≤ 2 → 1 ≤ age → age ≤ 2 → marked ≤ 8191
-    → Judged (twoStoreys weight zone ground age marked)
-in-range weight zone ground age marked light heavy known firm soft young old few =
-    survey.two-judged weight zone ground age marked (light, heavy) known (firm, soft) (young, old) few
+in-range : (weight zone ground surveyDay marked : ℕ) → 1 ≤ weight → weight ≤ 3 → Known zone → 1 ≤ ground → ground ≤ 2 → survey.Surveyed surveyDay → marked ≤ 8191
+    → Judged (twoStoreys weight zone ground surveyDay marked)
+in-range weight zone ground surveyDay marked light heavy known firm soft surveyed few =
+    survey.two-judged weight zone ground surveyDay marked (light, heavy) known (firm, soft) surveyed few
+
+-- Its survey days, the last on which it is under ten years and the day after.
+surveyed : survey.Surveyed underTenDay × survey.Surveyed tenDay
+unfolding isDay isDate daysIn isLeap
+surveyed = ((refl, lit≤ tt, lit≤ tt), (refl, lit≤ tt, lit≤ tt))
 
 pub two-judged : Judged sound × Judged heavy × Judged zone100 × Judged softGround × Judged overTen × Judged moreMarks × Judged allWorse
 two-judged = (
-  in-range 1 90 1 1 2048 (lit≤ tt) (lit≤ tt) (zones-known .2) (lit≤ tt) (lit≤ tt) (lit≤ tt) (lit≤ tt) (lit≤ tt),
-  in-range 2 90 1 1 2048 (lit≤ tt) (lit≤ tt) (zones-known .2) (lit≤ tt) (lit≤ tt) (lit≤ tt) (lit≤ tt) (lit≤ tt),
-  in-range 1 100 1 1 2048 (lit≤ tt) (lit≤ tt) (zones-known .3) (lit≤ tt) (lit≤ tt) (lit≤ tt) (lit≤ tt) (lit≤ tt),
-  in-range 1 90 2 1 2048 (lit≤ tt) (lit≤ tt) (zones-known .2) (lit≤ tt) (lit≤ tt) (lit≤ tt) (lit≤ tt) (lit≤ tt),
-  in-range 1 90 1 2 2048 (lit≤ tt) (lit≤ tt) (zones-known .2) (lit≤ tt) (lit≤ tt) (lit≤ tt) (lit≤ tt) (lit≤ tt),
-  in-range 1 90 1 1 2056 (lit≤ tt) (lit≤ tt) (zones-known .2) (lit≤ tt) (lit≤ tt) (lit≤ tt) (lit≤ tt) (lit≤ tt),
-  in-range 2 100 2 2 2056 (lit≤ tt) (lit≤ tt) (zones-known .3) (lit≤ tt) (lit≤ tt) (lit≤ tt) (lit≤ tt) (lit≤ tt),
+  in-range 1 90 1 underTenDay 2048 (lit≤ tt) (lit≤ tt) (zones-known .2) (lit≤ tt) (lit≤ tt) (surveyed .0) (lit≤ tt),
+  in-range 2 90 1 underTenDay 2048 (lit≤ tt) (lit≤ tt) (zones-known .2) (lit≤ tt) (lit≤ tt) (surveyed .0) (lit≤ tt),
+  in-range 1 100 1 underTenDay 2048 (lit≤ tt) (lit≤ tt) (zones-known .3) (lit≤ tt) (lit≤ tt) (surveyed .0) (lit≤ tt),
+  in-range 1 90 2 underTenDay 2048 (lit≤ tt) (lit≤ tt) (zones-known .2) (lit≤ tt) (lit≤ tt) (surveyed .0) (lit≤ tt),
+  in-range 1 90 1 tenDay 2048 (lit≤ tt) (lit≤ tt) (zones-known .2) (lit≤ tt) (lit≤ tt) (surveyed .1) (lit≤ tt),
+  in-range 1 90 1 underTenDay 2056 (lit≤ tt) (lit≤ tt) (zones-known .2) (lit≤ tt) (lit≤ tt) (surveyed .0) (lit≤ tt),
+  in-range 2 100 2 tenDay 2056 (lit≤ tt) (lit≤ tt) (zones-known .3) (lit≤ tt) (lit≤ tt) (surveyed .1) (lit≤ tt),
 )
 
 -- The figures of a house of two storeys, by what its walls hold in each place, in all and at the ends.
@@ -203,9 +209,9 @@ abbrev StoreysWalls : List ℕ → ℕ → Type 0
 StoreysWalls table each = (storeyWalls table 1 ≡ rowsFrom table 7 each) × (storeyWalls table 2 ≡ rowsFrom table (7 + each) each)
 
 -- Whatever the five numbers are.
-module _ (weight zone ground age marked : ℕ) (accepted : Judged (twoStoreys weight zone ground age marked)) where
+module _ (weight zone ground surveyDay marked : ℕ) (accepted : Judged (twoStoreys weight zone ground surveyDay marked)) where
   abbrev house : List ℕ
-  house = twoStoreys weight zone ground age marked
+  house = twoStoreys weight zone ground surveyDay marked
 
   walls : StoreysWalls house 3
   unfolding p1-walls
@@ -217,35 +223,35 @@ module _ (weight zone ground age marked : ℕ) (accepted : Judged (twoStoreys we
 
 -- From what they hold on all is computed.
 pub sound-figures : figures sound ≡ (131 ∷ 200 ∷ 350 ∷ 250 ∷ []) ∷ (188 ∷ 200 ∷ 350 ∷ 250 ∷ []) ∷ sameBands ∷ []
-unfolding endRequired required requiredOf narrow deterioration storeyFloorType wallRows first nth topLine constant snowAddition perArea groundFactor narrowFactor requiredStrength reached band floorType layoutFactor points countedMarks factorOf deteriorationFactor score
-sound-figures = by-sums _ refl (holds 1 90 1 1 2048 (two-judged .0))
+unfolding endRequired required requiredOf narrow deterioration storeyFloorType wallRows first nth topLine constant snowAddition perArea groundFactor narrowFactor requiredStrength reached band floorType layoutFactor points countedMarks factorOf deteriorationFactor score isLeap daysIn isDate tenYearsAfter ageOn
+sound-figures = by-sums _ refl (holds 1 90 1 underTenDay 2048 (two-judged .0))
 
 pub heavy-figures : figures heavy ≡ (103 ∷ 157 ∷ 244 ∷ 174 ∷ []) ∷ (147 ∷ 157 ∷ 244 ∷ 174 ∷ []) ∷ sameBands ∷ []
 unfolding sound-figures
-heavy-figures = by-sums _ refl (holds 2 90 1 1 2048 (two-judged .1))
+heavy-figures = by-sums _ refl (holds 2 90 1 underTenDay 2048 (two-judged .1))
 
 pub zone-figures : figures zone100 ≡ (118 ∷ 180 ∷ 315 ∷ 225 ∷ []) ∷ (169 ∷ 180 ∷ 315 ∷ 225 ∷ []) ∷ sameBands ∷ []
 unfolding sound-figures
-zone-figures = by-sums _ refl (holds 1 100 1 1 2048 (two-judged .2))
+zone-figures = by-sums _ refl (holds 1 100 1 underTenDay 2048 (two-judged .2))
 
 pub soft-ground-figures : figures softGround ≡ (87 ∷ 133 ∷ 233 ∷ 166 ∷ []) ∷ (125 ∷ 133 ∷ 233 ∷ 166 ∷ []) ∷ sameBands ∷ []
 unfolding sound-figures
-soft-ground-figures = by-sums _ refl (holds 1 90 2 1 2048 (two-judged .3))
+soft-ground-figures = by-sums _ refl (holds 1 90 2 underTenDay 2048 (two-judged .3))
 
 pub over-ten-figures : figures overTen ≡ (126 ∷ 192 ∷ 335 ∷ 239 ∷ []) ∷ (180 ∷ 192 ∷ 335 ∷ 239 ∷ []) ∷ sameBands ∷ []
 unfolding sound-figures
-over-ten-figures = by-sums _ refl (holds 1 90 1 2 2048 (two-judged .4))
+over-ten-figures = by-sums _ refl (holds 1 90 1 tenDay 2048 (two-judged .4))
 
 pub more-marks-figures : figures moreMarks ≡ (104 ∷ 158 ∷ 277 ∷ 198 ∷ []) ∷ (149 ∷ 158 ∷ 277 ∷ 198 ∷ []) ∷ sameBands ∷ []
 unfolding sound-figures
-more-marks-figures = by-sums _ refl (holds 1 90 1 1 2056 (two-judged .5))
+more-marks-figures = by-sums _ refl (holds 1 90 1 underTenDay 2056 (two-judged .5))
 
 pub all-worse-figures : figures allWorse ≡ (38 ∷ 74 ∷ 116 ∷ 82 ∷ []) ∷ (70 ∷ 74 ∷ 116 ∷ 82 ∷ []) ∷ sameBands ∷ []
 unfolding sound-figures
-all-worse-figures = by-sums _ refl (holds 2 100 2 2 2056 (two-judged .6))
+all-worse-figures = by-sums _ refl (holds 2 100 2 tenDay 2056 (two-judged .6))
 
 -- Under 1 m of snow: the sound house and the one that is worse in all five; and the house with weak joints, without snow and under 1 m.
-pub snowy-judged : Judged snowySound × Judged snowyWorse × (judging weakJoints ≡ counted 20) × (judging (underSnow 1 weakJoints) ≡ counted 20)
+pub snowy-judged : Judged snowySound × Judged snowyWorse × (judging weakJoints ≡ counted 21) × (judging (underSnow 1 weakJoints) ≡ counted 21)
 unfolding p10-judged
 snowy-judged = (refl, refl, refl, refl)
 
@@ -294,12 +300,18 @@ pub weak-joints-figures :
 unfolding sound-figures
 weak-joints-figures = (by-sums _ refl (snowy-hold .2), by-sums _ refl (snowy-hold .3))
 
--- The records of the best and the worst of them, and where a record has the score of a storey and direction.
+-- The records of P1 and of the best and the worst of them, and where a record has the score of a storey and direction.
 pub worsened-records :
-    (recordOf sound ≡ record { scores = 131 ∷ 200 ∷ 350 ∷ 250 ∷ 0 ∷ 0 ∷ []; count = 4; verdict = 2 })
-    × (recordOf allWorse ≡ record { scores = 38 ∷ 74 ∷ 116 ∷ 82 ∷ 0 ∷ 0 ∷ []; count = 4; verdict = 4 })
+    (recordOf p1 ≡ record { scores = 47 ∷ 83 ∷ 0 ∷ 0 ∷ 0 ∷ 0 ∷ []; count = 2; verdict = 4; started_by_31_may_1981 = 1 })
+    × (recordOf sound ≡ record { scores = 131 ∷ 200 ∷ 350 ∷ 250 ∷ 0 ∷ 0 ∷ []; count = 4; verdict = 2; started_by_31_may_1981 = 0 })
+    × (recordOf allWorse ≡ record { scores = 38 ∷ 74 ∷ 116 ∷ 82 ∷ 0 ∷ 0 ∷ []; count = 4; verdict = 4; started_by_31_may_1981 = 0 })
     × (_≡_ {A = List ℕ} (scoreAt 1 1 ∷ scoreAt 1 2 ∷ scoreAt 2 1 ∷ scoreAt 2 2 ∷ scoreAt 3 1 ∷ scoreAt 3 2 ∷ []) (0 ∷ 1 ∷ 2 ∷ 3 ∷ 4 ∷ 5 ∷ []))
-unfolding recordOf over houseVerdict leastScore leastOf verdict
+unfolding recordOf over houseVerdict leastScore leastOf verdict startedBy31May1981 wallRows first
 worsened-records =
     let scored : List (List ℕ) → List ℕ = λ figures. getD figures 0 [] in
-    (rw (ap scored sound-figures), rw (ap scored all-worse-figures), refl)
+    (rw p1-scores, rw (ap scored sound-figures), rw (ap scored all-worse-figures), refl)
+
+-- P1 with its start of work on the grant's last day, and a day later.
+pub grants-last-day : map startedBy31May1981 (set p1 89 19810531 ∷ set p1 89 19810601 ∷ []) ≡ 1 ∷ 0 ∷ []
+unfolding worsened-records
+grants-last-day = refl

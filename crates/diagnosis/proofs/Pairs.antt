@@ -57,8 +57,8 @@ module _
 pub p10-worse : SameOrWorse (p10 90) (p10 100)
 unfolding alike everyBelow mayDiffer wallRows first within
 p10-worse =
-    made-worse (p10 90) (p10 100) 10 (p10-judged 90 (zones-known .2)) (p10-judged 100 (zones-known .3)) refl refl refl
-    (record { heavier = omega arith; higher = omega arith; softer = omega arith; older = omega arith }) refl
+    made-worse (p10 90) (p10 100) 11 (p10-judged 90 (zones-known .2)) (p10-judged 100 (zones-known .3)) refl refl refl
+    (record { heavier = omega arith; higher = omega arith; softer = omega arith; later = omega arith }) refl
 
 p10-scores : (fullScore (p10 90) 1 1 ≡ 11) × (fullScore (p10 100) 1 1 ≡ 14)
 p10-scores = (ap (λ (l : List ℕ). getD l 1 0) (p10-rises .0), ap (λ (l : List ℕ). getD l 1 0) (p10-rises .1))
@@ -94,24 +94,24 @@ module _
 
 -- The sound house made worse.
 module _
-    (B : List ℕ) (accepted : judging B ≡ counted 14) (long : length B ≡ 112) (passed : alike sound B 14 ≡ true) {scored before : List ℕ}
+    (B : List ℕ) (accepted : judging B ≡ counted 15) (long : length B ≡ 120) (passed : alike sound B 15 ≡ true) {scored before : List ℕ}
     (b : figures B ≡ scored ∷ before ∷ sameBands ∷ [])
   where
     applies : NoLower sound B → within (marked sound) (marked B) ≡ true → Applies sound B
     applies no-lower marks =
-        bands-kept-applies sound B (made-worse sound B 14 (two-judged .0) accepted refl long passed no-lower marks) refl (ap bandsOf sound-figures) (ap bandsOf b)
+        bands-kept-applies sound B (made-worse sound B 15 (two-judged .0) accepted refl long passed no-lower marks) refl (ap bandsOf sound-figures) (ap bandsOf b)
 
 -- Pairs to which all of demand 3 applies: one for each of the five, and one that is worse in all of them.
 pub worsened :
     Applies sound heavy × Applies sound zone100 × Applies sound softGround × Applies sound overTen × Applies sound moreMarks × Applies sound allWorse
 unfolding p10-worse
 worsened = (
-  applies heavy (two-judged .1) refl refl heavy-figures (record { heavier = omega arith; higher = omega arith; softer = omega arith; older = omega arith }) refl,
-  applies zone100 (two-judged .2) refl refl zone-figures (record { heavier = omega arith; higher = omega arith; softer = omega arith; older = omega arith }) refl,
-  applies softGround (two-judged .3) refl refl soft-ground-figures (record { heavier = omega arith; higher = omega arith; softer = omega arith; older = omega arith }) refl,
-  applies overTen (two-judged .4) refl refl over-ten-figures (record { heavier = omega arith; higher = omega arith; softer = omega arith; older = omega arith }) refl,
-  applies moreMarks (two-judged .5) refl refl more-marks-figures (record { heavier = omega arith; higher = omega arith; softer = omega arith; older = omega arith }) refl,
-  applies allWorse (two-judged .6) refl refl all-worse-figures (record { heavier = omega arith; higher = omega arith; softer = omega arith; older = omega arith }) refl,
+  applies heavy (two-judged .1) refl refl heavy-figures (record { heavier = omega arith; higher = omega arith; softer = omega arith; later = omega arith }) refl,
+  applies zone100 (two-judged .2) refl refl zone-figures (record { heavier = omega arith; higher = omega arith; softer = omega arith; later = omega arith }) refl,
+  applies softGround (two-judged .3) refl refl soft-ground-figures (record { heavier = omega arith; higher = omega arith; softer = omega arith; later = omega arith }) refl,
+  applies overTen (two-judged .4) refl refl over-ten-figures (record { heavier = omega arith; higher = omega arith; softer = omega arith; later = omega arith }) refl,
+  applies moreMarks (two-judged .5) refl refl more-marks-figures (record { heavier = omega arith; higher = omega arith; softer = omega arith; later = omega arith }) refl,
+  applies allWorse (two-judged .6) refl refl all-worse-figures (record { heavier = omega arith; higher = omega arith; softer = omega arith; later = omega arith }) refl,
 )
 
 -- And pairs under snow, worse in all five: at each depth one is the other made worse, and under 1 m all of demand 3 applies.
@@ -119,12 +119,12 @@ pub snowy-worse :
     SameOrWorse snowySound snowyWorse × SameOrWorse (underSnow 2 sound) (underSnow 2 allWorse) × SameOrWorse (underSnow 3 sound) (underSnow 3 allWorse)
 unfolding p10-worse
 snowy-worse = (
-  made-worse snowySound snowyWorse 14 (snowy-judged .0) (snowy-judged .1) refl refl refl
-      (record { heavier = omega arith; higher = omega arith; softer = omega arith; older = omega arith }) refl,
-  made-worse (underSnow 2 sound) (underSnow 2 allWorse) 14 (deeper-judged .0) (deeper-judged .1) refl refl refl
-      (record { heavier = omega arith; higher = omega arith; softer = omega arith; older = omega arith }) refl,
-  made-worse (underSnow 3 sound) (underSnow 3 allWorse) 14 (deeper-judged .2) (deeper-judged .3) refl refl refl
-      (record { heavier = omega arith; higher = omega arith; softer = omega arith; older = omega arith }) refl,
+  made-worse snowySound snowyWorse 15 (snowy-judged .0) (snowy-judged .1) refl refl refl
+      (record { heavier = omega arith; higher = omega arith; softer = omega arith; later = omega arith }) refl,
+  made-worse (underSnow 2 sound) (underSnow 2 allWorse) 15 (deeper-judged .0) (deeper-judged .1) refl refl refl
+      (record { heavier = omega arith; higher = omega arith; softer = omega arith; later = omega arith }) refl,
+  made-worse (underSnow 3 sound) (underSnow 3 allWorse) 15 (deeper-judged .2) (deeper-judged .3) refl refl refl
+      (record { heavier = omega arith; higher = omega arith; softer = omega arith; later = omega arith }) refl,
 )
 
 pub snowy-worsened : Applies snowySound snowyWorse

@@ -115,7 +115,7 @@ module _ (sheet : List ℕ) (lent : ℕ) where
       by-way-out
       (λ answer. answer .number ≡ lent-space-short → (lent < needed) × (needed ≤ 455))
       (λ r e. absurd (never-short sheet mostNumbers (le-refl mostNumbers) e))
-      (λ j e. absurd (omega (arith, judging-known (tableOf sheet), e)))
+      (λ j e. absurd (judging-known (tableOf sheet) .1 e))
       (λ j l e. (l, omega (arith, storeys-few (tableOf sheet) (accepted-number (tableOf sheet) j))))
       (λ l e. absurd (omega arith))
 

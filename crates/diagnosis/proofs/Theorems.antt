@@ -2,24 +2,24 @@
 -- defined in specs/. Assumes nothing.
 use mathlib.Core.Path.{_≡_}
 use mathlib.Core.Bool.{true, false}
-use mathlib.Core.List.{List, [], _∷_}
+use mathlib.Core.List.{List, [], _∷_, map}
 use Prim.Native.Nat.{ℕ, _*_, _<_, _≤_}
 use native.Mathlib.Omega.{arith}
-use lib.ListN.{length, getD, take, replicate}
+use lib.ListN.{length, getD, set, take, replicate}
 use lib.Dec.{eqb}
 use Rattle.answer.specs.declared.Answer.{Answer}
 use Rattle.answer.specs.declared.Answer.the-variants.{Count}
 use Rattle.answer.specs.Told.{told, counted, lent-space-short}
 use Rattle.answer.specs.Text.{bytes}
-use Rattle.answer.specs.Houses.{p1Sheet}
+use Rattle.answer.specs.Houses.{p1Sheet, p1}
 use Rattle.answer.specs.Lists.{over}
 use Rattle.sheet.specs.Sheet.{writing, afterWriting}
 use Rattle.survey.specs.Table.{cell, storeys}
 use Rattle.survey.specs.Judgement.{judging, within}
 use Rattle.method.specs.Worked.{worked, expected}
 use Rattle.diagnosis.specs.declared.scores.Scoring.{Scoring}
-use Rattle.diagnosis.specs.Rows.{weight, zone, ground, age, marked}
-use Rattle.diagnosis.specs.House.{InHouse, higherBand, scoreBefore, fullScore, leastScore, houseVerdict}
+use Rattle.diagnosis.specs.Rows.{weight, zone, ground, marked, surveyDay}
+use Rattle.diagnosis.specs.House.{InHouse, higherBand, scoreBefore, fullScore, leastScore, houseVerdict, startedBy31May1981}
 use Rattle.diagnosis.specs.Answers.{toldScoring, recordOf, scoring}
 use Rattle.diagnosis.specs.Report.{reportRows, reportLines, reportBytes, reporting}
 use Rattle.diagnosis.specs.Program.{tableOf, diagnosing, afterDiagnosing, mostReportBytes, output}
@@ -64,11 +64,12 @@ diagnosing-by-number = program.diagnosing-by-number
 pub comparison : (A B : List ℕ) → SameOrWorse A B → NoBetter A B
 comparison = comparing.comparison
 
--- The same with nothing left to a record: the premises are document 01's one by one, and the conclusions those of demand 3.
+-- The same with nothing left to a record: the premises are document 01's one by one, with the survey day in the age's place, and the conclusions
+-- those of demand 3.
 pub comparison-in-full : (A B : List ℕ)
     → judging A .number ≡ 0 → judging B .number ≡ 0 → length A ≡ length B
     → ((row column : ℕ) → column < 8 → mayDiffer A row column ≡ false → cell A row column ≡ cell B row column)
-    → weight A ≤ weight B → zone A ≤ zone B → ground A ≤ ground B → age A ≤ age B → within (marked A) (marked B) ≡ true
+    → weight A ≤ weight B → zone A ≤ zone B → ground A ≤ ground B → surveyDay A ≤ surveyDay B → within (marked A) (marked B) ≡ true
     → ((storey direction : ℕ) → 1 ≤ storey → storey ≤ storeys A → 1 ≤ direction → direction ≤ 2
     → (scoreBefore B storey direction ≤ scoreBefore A storey direction)
     × (higherBand B storey direction ≡ higherBand A storey direction → fullScore B storey direction ≤ fullScore A storey direction)
@@ -78,8 +79,8 @@ pub comparison-in-full : (A B : List ℕ)
     → higherBand B storey direction ≡ higherBand A storey direction)
     → (houseVerdict A ≤ houseVerdict B)
     × ((a b : Scoring) → toldScoring a ≡ scoring A → toldScoring b ≡ scoring B → a .result .verdict ≤ b .result .verdict))
-comparison-in-full A B A-accepted B-accepted rows same heavier higher softer older marks =
-    let no-lower : NoLower A B = record { heavier = heavier; higher = higher; softer = softer; older = older } in
+comparison-in-full A B A-accepted B-accepted rows same heavier higher softer later marks =
+    let no-lower : NoLower A B = record { heavier = heavier; higher = higher; softer = softer; later = later } in
     let worse : SameOrWorse A B = record { A-accepted = A-accepted; B-accepted = B-accepted; rows = rows; same = same; no-lower = no-lower; marks = marks } in
     let no-better = comparison A B worse in (
       (λ storey direction some last one two.
@@ -118,12 +119,18 @@ worsened-figures = (
   examples.all-worse-figures,
 )
 
--- The verdict goes from 2 to 4, as the theorem says that it gets no better. These are the places of a record.
+-- The verdict goes from 2 to 4, as the theorem says that it gets no better. The first record is P1's, on which work started by 31 May 1981. These are
+-- the places of a record.
 pub worsened-records :
-    (recordOf sound ≡ record { scores = 131 ∷ 200 ∷ 350 ∷ 250 ∷ 0 ∷ 0 ∷ []; count = 4; verdict = 2 })
-    × (recordOf allWorse ≡ record { scores = 38 ∷ 74 ∷ 116 ∷ 82 ∷ 0 ∷ 0 ∷ []; count = 4; verdict = 4 })
+    (recordOf p1 ≡ record { scores = 47 ∷ 83 ∷ 0 ∷ 0 ∷ 0 ∷ 0 ∷ []; count = 2; verdict = 4; started_by_31_may_1981 = 1 })
+    × (recordOf sound ≡ record { scores = 131 ∷ 200 ∷ 350 ∷ 250 ∷ 0 ∷ 0 ∷ []; count = 4; verdict = 2; started_by_31_may_1981 = 0 })
+    × (recordOf allWorse ≡ record { scores = 38 ∷ 74 ∷ 116 ∷ 82 ∷ 0 ∷ 0 ∷ []; count = 4; verdict = 4; started_by_31_may_1981 = 0 })
     × (_≡_ {A = List ℕ} (scoreAt 1 1 ∷ scoreAt 1 2 ∷ scoreAt 2 1 ∷ scoreAt 2 2 ∷ scoreAt 3 1 ∷ scoreAt 3 2 ∷ []) (0 ∷ 1 ∷ 2 ∷ 3 ∷ 4 ∷ 5 ∷ []))
 worsened-records = examples.worsened-records
+
+-- The grant's last day counts, and the day after it does not: P1 with its start of work on these.
+pub grants-last-day : map startedBy31May1981 (set p1 89 19810531 ∷ set p1 89 19810601 ∷ []) ≡ 1 ∷ 0 ∷ []
+grants-last-day = examples.grants-last-day
 
 pub worsened-verdict : houseVerdict sound ≤ houseVerdict allWorse
 worsened-verdict = comparison sound allWorse (worsened .5 .worse) .verdict (worsened .5 .kept)

@@ -45,7 +45,8 @@ const GRANTS_LAST_DAY: u32 = 19_810_531;
 fn started_by_31_may_1981(table: &[u32]) -> u32
     ensures { λ r. ⌜ r ≡ startedBy31May1981 (now (table .entry)) ⌝ }
 {
-    if GRANTS_LAST_DAY < dates_of(table).start {
+    let dates = dates_of(table);
+    if GRANTS_LAST_DAY < dates.start {
         return 0;
     }
     1

@@ -60,7 +60,7 @@ dates-told = refl
 
 -- A house of two storeys is accepted, with its fifteen rows, whatever the five numbers are that may differ in demand 3, each in its range.
 -- They stand in the house row, the parts row and the dates row. The other rows are computed.
-abbrev Surveyed : ℕ → Type 0
+abbrev pub Surveyed : ℕ → Type 0
 Surveyed surveyDay = (isDay surveyDay ≡ true) × (19980401 ≤ surveyDay) × (surveyDay ≤ 21991231)
 
 built : (isDay 19970601 ≡ true) × (isDay 19980401 ≡ true)

@@ -5,24 +5,30 @@ use borrow.Author.Needs.{needs}
 use Rattle.diagnosis.proofs.assessment.deterioration.Statement.{statement}
 use Rattle.diagnosis.proofs.assessment.deterioration.Tie as tie
 
+dates-of-requires : tie.Need-dates-of-requires
+dates-of-requires c κs = search needs
+
+age-on-requires : tie.Need-age-on-requires
+age-on-requires c κs = search needs
+
 items-of-requires : tie.Need-items-of-requires
 items-of-requires c κs = search needs
-
-cell-requires : tie.Need-cell-requires
-cell-requires c κs = search needs
 
 deterioration-factor-requires : tie.Need-deterioration-factor-requires
 deterioration-factor-requires c κs = search needs
 
 returns : tie.Need-returns
 unfolding deterioration
-returns c = c .deterioration-factor .ensures ∙ rw (c .before .before .items-of .ensures, c .before .cell .ensures)
+returns c =
+    c .deterioration-factor .ensures
+    ∙ rw (c .before .items-of .ensures, c .before .before .age-on .ensures, c .before .before .before .dates-of .ensures)
 
 pub deterioration-spec : {M : Type 1} → statement M
 deterioration-spec =
     tie.close
     (tie.spec
+    dates-of-requires
+    age-on-requires
     items-of-requires
-    cell-requires
     deterioration-factor-requires
     returns)

@@ -23,6 +23,9 @@ enum-told c = search needs
 assess-house-requires : tie.Need-assess-house-requires
 assess-house-requires c κs = stands _ (judge-accepted _ (c .before .before .judge .ensures) (c .enum-told .given .1) .0)
 
+started-by-31-may-1981-requires : tie.Need-started-by-31-may-1981-requires
+started-by-31-may-1981-requires c κs = search needs
+
 record-of-requires : tie.Need-record-of-requires
 record-of-requires c κs = search needs
 
@@ -36,8 +39,8 @@ returns c =
 returns-2 : tie.Need-returns-2
 unfolding scoring
 returns-2 c =
-    let accepted = judge-accepted _ (c .before .before .before .before .judge .ensures) (c .before .before .enum-told .given .1) .0 in
-    rw (judging-accepts _ accepted, c .record-of .ensures, c .before .assess-house .ensures, record-is _ accepted)
+    let accepted = judge-accepted _ (c .before .before .before .before .before .judge .ensures) (c .before .before .before .enum-told .given .1) .0 in
+    rw (judging-accepts _ accepted, c .record-of .ensures, c .before .before .assess-house .ensures, c .before .started-by-31-may-1981 .ensures, record-is _ accepted)
 
 pub score-spec : {M : Type 1} → statement M
 score-spec =
@@ -47,6 +50,7 @@ score-spec =
     enum-known-number
     enum-told
     assess-house-requires
+    started-by-31-may-1981-requires
     record-of-requires
     returns
     returns-2)
