@@ -1,2 +1,4 @@
--- The laws about days that other crates cite, and the theorems.
+-- The laws about days that other crates cite.
 pub mod Months
+pub mod Numbers
+pub mod Ages
