@@ -7,7 +7,7 @@
 ghost use mathlib.Core.Path.{_≡_};
 ghost use Rattle.calendar.specs.Days.{isLeap, daysIn, isDate, isDay, tenYearsAfter, ageOn};
 
-// The days of January to December, where February has no 29th. Months count from 1.
+// By a month's number, the days of January to December, where February has no 29th. There is no month 0.
 const MONTH_LENGTHS: [u32; 13] = [0, 31, 28, 31, 30, 31, 30, 31, 31, 30, 31, 30, 31];
 
 // Whether February has a 29th in a year: 1900 is no leap year, and 2000 is one.
