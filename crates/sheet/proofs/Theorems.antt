@@ -42,8 +42,8 @@ read-rest = round-trip.read-rest
 pub never-short : (sheet : List ℕ) (lent : ℕ) → 8 * mostRows ≤ lent → reading sheet lent .number ≡ lent-space-short → ⊥
 never-short = answers.never-short
 
--- The longest sheet has 311 lines, 20,215 bytes, for which 2,487 numbers are one too few; a line more is refusal 1.
-pub longest-sheet : (reading (replicate 20_215 32) 2_487 ≡ refusal 9 0 0) × (reading (replicate 20_280 32) 2_496 ≡ refusal 1 0 0)
+-- The longest sheet has 312 lines, 20,280 bytes, for which 2,495 numbers are one too few; a line more is refusal 1.
+pub longest-sheet : (reading (replicate 20_280 32) 2_495 ≡ refusal 9 0 0) × (reading (replicate 20_345 32) 2_504 ≡ refusal 1 0 0)
 longest-sheet = examples.longest-sheet
 
 -- Writing. After a table that is accepted, the bytes that were written stand at the front, and the bytes after them stay.
@@ -78,16 +78,16 @@ pub write-then-read : (table sheet numbers : List ℕ) → writing table (length
     × (afterReading (bytesWritten table sheet) numbers ≡ table ++ drop (length table) numbers)
 write-then-read = round-trip.write-then-read
 
--- P1 of document 01 both ways. Its sheet is read into 96 numbers that are all 7: eleven rows, P1's table, and the last eight stay 7.
--- Its table is written into 720 bytes that are all 7: 715 bytes, P1's sheet, and the last five stay 7. With 714 bytes it is refusal 9,
+-- P1 of document 01 both ways. Its sheet is read into 104 numbers that are all 7: twelve rows, P1's table, and the last eight stay 7.
+-- Its table is written into 785 bytes that are all 7: 780 bytes, P1's sheet, and the last five stay 7. With 779 bytes it is refusal 9,
 -- and they all stay 7.
 pub p1-round-trip :
-    ((reading p1Sheet 96 ≡ counted 11)
-    × (rowsRead p1Sheet (replicate 96 7) ≡ p1)
-    × (afterReading p1Sheet (replicate 96 7) ≡ p1 ++ replicate 8 7))
-    × ((writing p1 720 ≡ counted 715)
-    × (bytesWritten p1 (replicate 720 7) ≡ p1Sheet)
-    × (afterWriting p1 (replicate 720 7) ≡ p1Sheet ++ replicate 5 7))
-    × ((writing p1 714 ≡ refusal 9 0 0)
-    × (afterWriting p1 (replicate 714 7) ≡ replicate 714 7))
+    ((reading p1Sheet 104 ≡ counted 12)
+    × (rowsRead p1Sheet (replicate 104 7) ≡ p1)
+    × (afterReading p1Sheet (replicate 104 7) ≡ p1 ++ replicate 8 7))
+    × ((writing p1 785 ≡ counted 780)
+    × (bytesWritten p1 (replicate 785 7) ≡ p1Sheet)
+    × (afterWriting p1 (replicate 785 7) ≡ p1Sheet ++ replicate 5 7))
+    × ((writing p1 779 ≡ refusal 9 0 0)
+    × (afterWriting p1 (replicate 779 7) ≡ replicate 779 7))
 p1-round-trip = (examples.p1-read-in, examples.p1-written-out, examples.p1-too-short)
