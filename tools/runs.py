@@ -1,8 +1,19 @@
-"""What the makers of runs share: P1 of document 01, the text of a sheet, and the files of a crate."""
+"""What the makers of runs share: P1 of document 01, a house's dates, the text of a sheet, and the files of a crate."""
 import os
 
+# Start of work, completion and survey day (document 02, request 3): of a house over ten years old on the survey day,
+# which are P1's, and of one under ten.
+OVER_TEN = (19800401, 19801001, 20120401)
+UNDER_TEN = (20050401, 20051001, 20120401)
+
+
+def dates_row(days):
+    return (8,) + days + (0, 0, 0, 0)
+
+
+# P1, with the age 0 and the dates row that document 02's request 3 gives it.
 P1 = [
-    (1, 1, 2, 100, 1, 1, 2, 0),
+    (1, 1, 2, 100, 1, 1, 0, 0),
     (2, 1, 4000, 5000, 1, 0, 0, 0),
     (3, 1, 1, 1000, 1000, 1, 1, 0),
     (3, 1, 2, 1000, 1000, 1, 1, 0),
@@ -13,6 +24,7 @@ P1 = [
     (4, 1, 2, 2, 20, 4000, 1, 1),
     (4, 1, 2, 3, 20, 2000, 1, 1),
     (5, 8191, 8, 0, 0, 0, 0, 0),
+    dates_row(OVER_TEN),
 ]
 
 
