@@ -3,23 +3,23 @@ use borrow.Author.Needs.{needs}
 use Rattle.diagnosis.proofs.scores.record_of.Statement.{statement}
 use Rattle.diagnosis.proofs.scores.record_of.Tie as tie
 
-element-copy-out-t5 : tie.Need-element-copy-out-t5
-element-copy-out-t5 c = search needs
+element-copy-out-t6 : tie.Need-element-copy-out-t6
+element-copy-out-t6 c = search needs
 
-element-copy-out-t8 : tie.Need-element-copy-out-t8
-element-copy-out-t8 c = search needs
+element-copy-out-t9 : tie.Need-element-copy-out-t9
+element-copy-out-t9 c = search needs
 
-element-copy-out-t11 : tie.Need-element-copy-out-t11
-element-copy-out-t11 c = search needs
+element-copy-out-t12 : tie.Need-element-copy-out-t12
+element-copy-out-t12 c = search needs
 
-element-copy-out-t14 : tie.Need-element-copy-out-t14
-element-copy-out-t14 c = search needs
+element-copy-out-t15 : tie.Need-element-copy-out-t15
+element-copy-out-t15 c = search needs
 
-element-copy-out-t17 : tie.Need-element-copy-out-t17
-element-copy-out-t17 c = search needs
+element-copy-out-t18 : tie.Need-element-copy-out-t18
+element-copy-out-t18 c = search needs
 
-element-copy-out-t20 : tie.Need-element-copy-out-t20
-element-copy-out-t20 c = search needs
+element-copy-out-t21 : tie.Need-element-copy-out-t21
+element-copy-out-t21 c = search needs
 
 verdict-requires : tie.Need-verdict-requires
 verdict-requires c κs = search needs
@@ -31,11 +31,11 @@ pub record-of-spec : {M : Type 1} → statement M
 record-of-spec =
     tie.close
     (tie.spec
-    element-copy-out-t5
-    element-copy-out-t8
-    element-copy-out-t11
-    element-copy-out-t14
-    element-copy-out-t17
-    element-copy-out-t20
+    element-copy-out-t6
+    element-copy-out-t9
+    element-copy-out-t12
+    element-copy-out-t15
+    element-copy-out-t18
+    element-copy-out-t21
     verdict-requires
     returns)
