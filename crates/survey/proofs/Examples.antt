@@ -2,13 +2,13 @@
 -- walls each storey has, and a table for each refusal. Assumes nothing.
 use mathlib.Core.Path.{_≡_, refl, sym, ap}
 use mathlib.Core.Bool.{true}
-use mathlib.Core.List.{[], _∷_, _++_, map}
+use mathlib.Core.List.{[], _∷_, map}
 use Prim.Native.Nat.{ℕ, _%_, _<_, _≤_, zero-le}
 use native.Mathlib.Nat.{le-refl}
 use native.Mathlib.Omega.{arith}
 use lib.Bits.{and-mask}
 use lib.Dec.{lit≤}
-use lib.ListN.{take, set}
+use lib.ListN.{set}
 use borrow.Author.Tests.{eq-eqb, le-ltb}
 use Rattle.answer.specs.Houses.{p1, twoStoreys}
 use Rattle.answer.specs.Told.{Told, counted, refusal}
@@ -20,7 +20,7 @@ use Rattle.survey.specs.Ranges as ranges
 use Rattle.survey.specs.Judgement.{none, faulty, _then_, test, outside, leftmost, wrongColumn, houseFault, storeyFault, endsFault, storeyBefore, wallFault, within, partsFault, daysFault, orderFault, datesFault, rowFault, judging}
 use Rattle.survey.specs.Acceptance.{Accepted}
 use Rattle.survey.specs.Walls.{rowsFrom, rowsWhere, isWallOf, storeyWalls, runStart, runLength, storeyRun}
-use Rattle.survey.specs.Worked.{groundWalls, upperWalls, ofStoreys}
+use Rattle.survey.specs.Worked.{datesChanged, datesTold, groundWalls, upperWalls, ofStoreys}
 use Rattle.survey.specs.Internal.{JudgedTo}
 use Rattle.answer.proofs.Places.{before-first}
 use Rattle.survey.proofs.Judging.{judging-accepted}
@@ -39,22 +39,7 @@ unfolding p1-judged
 refusals-told = refl
 
 -- And its dates row changed, or missing, or the age.
-pub dates-told :
-    map judging (
-    take 88 p1
-    ∷ set p1 6 2
-    ∷ (p1 ++ (8 ∷ 19800401 ∷ 19801001 ∷ 20120401 ∷ 0 ∷ 0 ∷ 0 ∷ 0 ∷ []))
-    ∷ set p1 91 21991232
-    ∷ set p1 89 20010231
-    ∷ set (set p1 89 20010231) 95 1
-    ∷ set (set (set p1 89 20010101) 90 20001231) 91 20010229
-    ∷ set p1 90 19800331
-    ∷ set p1 91 19800930
-    ∷ set (set p1 90 19800401) 91 19800401
-    ∷ []
-    )
-    ≡ refusal 3 12 1 ∷ refusal 4 1 7 ∷ refusal 3 13 1 ∷ refusal 4 12 4 ∷ refusal 10 12 2 ∷ refusal 4 12 8 ∷ refusal 10 12 4 ∷ refusal 11 12 3
-    ∷ refusal 11 12 4 ∷ counted 12 ∷ []
+pub dates-told : map judging datesChanged ≡ datesTold
 unfolding p1-judged
 dates-told = refl
 

@@ -2,10 +2,10 @@
 -- Assumes nothing.
 use mathlib.Core.Path.{_≡_}
 use mathlib.Core.Bool.{true}
-use mathlib.Core.List.{List, [], _∷_, _++_, map}
+use mathlib.Core.List.{List, [], _∷_, map}
 use Prim.Native.Nat.{ℕ, _<_, _≤_}
 use lib.Dec.{eqb}
-use lib.ListN.{take, set}
+use lib.ListN.{set}
 use Rattle.answer.specs.Told.{counted, refusal, lent-space-short, dates-out-of-order}
 use Rattle.answer.specs.Houses.{p1, twoStoreys}
 use Rattle.calendar.specs.Days.{isDay}
@@ -14,7 +14,7 @@ use Rattle.survey.specs.Ranges as ranges
 use Rattle.survey.specs.Judgement.{judging}
 use Rattle.survey.specs.Acceptance.{Accepted}
 use Rattle.survey.specs.Walls.{storeyWalls, storeyRun}
-use Rattle.survey.specs.Worked.{groundWalls, upperWalls, ofStoreys}
+use Rattle.survey.specs.Worked.{datesChanged, datesTold, groundWalls, upperWalls, ofStoreys}
 use Rattle.survey.proofs.RefusalNumbers as refusal-numbers
 use Rattle.survey.proofs.Acceptance as acceptance
 use Rattle.survey.proofs.StoreyWalls as storey-walls
@@ -68,25 +68,8 @@ pub refusals-told : map judging (set p1 8 4 ∷ set p1 3 95 ∷ set p1 7 4 ∷ s
     ≡ refusal 3 2 1 ∷ refusal 4 1 4 ∷ refusal 4 1 8 ∷ refusal 6 3 4 ∷ refusal 7 11 3 ∷ refusal 8 11 2 ∷ []
 refusals-told = examples.refusals-told
 
--- The same with its dates: the dates row missing; age 2; a second dates row; a survey day after the last that a row may hold; 20010231 as start of
--- work, and beside it a 1 in column 8; dates that fall and a survey day that is none; completion before the start of work; the survey before
--- completion. Where all three are the same day it is accepted.
-pub dates-told :
-    map judging (
-    take 88 p1
-    ∷ set p1 6 2
-    ∷ (p1 ++ (8 ∷ 19800401 ∷ 19801001 ∷ 20120401 ∷ 0 ∷ 0 ∷ 0 ∷ 0 ∷ []))
-    ∷ set p1 91 21991232
-    ∷ set p1 89 20010231
-    ∷ set (set p1 89 20010231) 95 1
-    ∷ set (set (set p1 89 20010101) 90 20001231) 91 20010229
-    ∷ set p1 90 19800331
-    ∷ set p1 91 19800930
-    ∷ set (set p1 90 19800401) 91 19800401
-    ∷ []
-    )
-    ≡ refusal 3 12 1 ∷ refusal 4 1 7 ∷ refusal 3 13 1 ∷ refusal 4 12 4 ∷ refusal 10 12 2 ∷ refusal 4 12 8 ∷ refusal 10 12 4 ∷ refusal 11 12 3
-    ∷ refusal 11 12 4 ∷ counted 12 ∷ []
+-- The same with its age or its dates changed: nine are refused, and where start of work, completion and survey are on one day it is accepted.
+pub dates-told : map judging datesChanged ≡ datesTold
 dates-told = examples.dates-told
 
 -- A house of two storeys is accepted with its fifteen rows, whatever the five numbers are that may differ in demand 3, each in its range.
