@@ -64,5 +64,8 @@ int main(int argc, char **argv)
         fprintf(stderr, "storey %u, direction %c: %u.%02u\n", (unsigned)(each / 2 + 1), "XY"[each % 2],
                 (unsigned)(scoring.scores[each] / 100), (unsigned)(scoring.scores[each] % 100));
     fprintf(stderr, "verdict %u\n", (unsigned)scoring.verdict);
+
+    /* The record says one thing more, which is not in the report. */
+    fprintf(stderr, "work started %s\n", scoring.started_by_31_may_1981 ? "by 31 May 1981" : "after 31 May 1981");
     return 0;
 }

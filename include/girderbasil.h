@@ -25,7 +25,7 @@
 extern "C" {
 #endif
 
-/* Refusals, by document 01's numbers. docs/REFUSALS.md explains each. */
+/* Refusals, by the numbers of documents 01 and 02. docs/REFUSALS.md explains each. */
 enum {
     GIRDERBASIL_SHEET_LENGTH = 1,
     GIRDERBASIL_MISPRINT = 2,
@@ -35,14 +35,20 @@ enum {
     GIRDERBASIL_ENDS_EXCEED_STOREY = 6,
     GIRDERBASIL_MARK_ON_ABSENT_PART = 7,
     GIRDERBASIL_NO_PARTS = 8,
-    GIRDERBASIL_LENT_SPACE_SHORT = 9
+    GIRDERBASIL_LENT_SPACE_SHORT = 9,
+    GIRDERBASIL_NO_SUCH_DAY = 10,
+    GIRDERBASIL_DATES_OUT_OF_ORDER = 11
 };
 
-/* The bytes of a line, the numbers of a row; and the most that is ever needed of either. */
+/* The bytes of a line, the numbers of a row; the most walls of a house; and the most rows and bytes that are
+ * ever needed. The longest sheet has the house, three storeys, six lines of ends, the walls, the parts and the
+ * dates.
+ */
 enum {
     GIRDERBASIL_LINE = 65,
     GIRDERBASIL_ROW = 8,
-    GIRDERBASIL_MOST_ROWS = 311,
+    GIRDERBASIL_MOST_WALLS = 300,
+    GIRDERBASIL_MOST_ROWS = 1 + 3 + 6 + GIRDERBASIL_MOST_WALLS + 1 + 1,
     GIRDERBASIL_MOST_REPORT_BYTES = 7 * GIRDERBASIL_LINE
 };
 
@@ -64,6 +70,7 @@ typedef struct {
     uint32_t scores[6]; /* in hundredths; ground storey X, ground storey Y, next storey X, ..; unused ones 0 */
     uint32_t count;     /* how many scores there are: two a storey */
     uint32_t verdict;   /* 1 to 4 */
+    uint32_t started_by_31_may_1981; /* 1 where work on the house started on that day or before; else 0 */
 } girderbasil_scoring;
 
 /* What the scoring program prints for a sheet. */
@@ -89,13 +96,14 @@ girderbasil_assert(offsetof(girderbasil_answer, number) == 0);
 girderbasil_assert(offsetof(girderbasil_answer, row) == 4);
 girderbasil_assert(offsetof(girderbasil_answer, column) == 8);
 girderbasil_assert(offsetof(girderbasil_answer, count) == 12);
-girderbasil_assert(sizeof(girderbasil_scoring) == 44);
+girderbasil_assert(sizeof(girderbasil_scoring) == 48);
 girderbasil_assert(offsetof(girderbasil_scoring, number) == 0);
 girderbasil_assert(offsetof(girderbasil_scoring, row) == 4);
 girderbasil_assert(offsetof(girderbasil_scoring, column) == 8);
 girderbasil_assert(offsetof(girderbasil_scoring, scores) == 12);
 girderbasil_assert(offsetof(girderbasil_scoring, count) == 36);
 girderbasil_assert(offsetof(girderbasil_scoring, verdict) == 40);
+girderbasil_assert(offsetof(girderbasil_scoring, started_by_31_may_1981) == 44);
 girderbasil_assert(sizeof(girderbasil_output) == 472);
 girderbasil_assert(offsetof(girderbasil_output, number) == 0);
 girderbasil_assert(offsetof(girderbasil_output, row) == 4);
@@ -114,7 +122,7 @@ girderbasil_assert(offsetof(girderbasil_output, bytes) == 16);
 girderbasil_answer girderbasil_read(const uint8_t *sheet, size_t sheet_length,
                                     uint32_t *table, size_t table_length);
 
-/* Scores a table: its record, or a refusal with one of 1, 3, 4, 5, 6, 7, 8. Writes nothing.
+/* Scores a table: its record, or a refusal with one of 1, 3, 4, 5, 6, 7, 8, 10, 11. Writes nothing.
  * The length is in numbers: after reading, 8 times the count of rows.
  */
 girderbasil_scoring girderbasil_score(const uint32_t *table, size_t table_length);

@@ -12,15 +12,29 @@
 export const LINE = 65;
 /** The numbers of a table's row. */
 export const ROW = 8;
-/** The most lines that a sheet, and rows that a table, can have. */
-export const MOST_ROWS = 311;
+/** The most walls that a house can have. */
+export const MOST_WALLS = 300;
+/**
+ * The most lines that a sheet, and rows that a table, can have: the house, three storeys, six of ends, the walls, the parts
+ * and the dates.
+ */
+export const MOST_ROWS = 1 + 3 + 6 + MOST_WALLS + 1 + 1;
 /** The bytes of the longest report. */
 export const MOST_REPORT_BYTES = 7 * LINE;
 
 /** The structs of the header: each one's size, and where its fields begin. */
 export const LAYOUTS = Object.freeze({
     girderbasil_answer: Object.freeze({ size: 16, number: 0, row: 4, column: 8, count: 12 }),
-    girderbasil_scoring: Object.freeze({ size: 44, number: 0, row: 4, column: 8, scores: 12, count: 36, verdict: 40 }),
+    girderbasil_scoring: Object.freeze({
+        size: 48,
+        number: 0,
+        row: 4,
+        column: 8,
+        scores: 12,
+        count: 36,
+        verdict: 40,
+        started_by_31_may_1981: 44,
+    }),
     girderbasil_output: Object.freeze({ size: 472, number: 0, row: 4, column: 8, count: 12, bytes: 16 }),
 });
 
@@ -42,6 +56,7 @@ export const LAYOUTS = Object.freeze({
  * @property {number[]} scores six, in hundredths; ground storey X, ground storey Y, next storey X, ..; unused ones 0
  * @property {number} count how many scores there are: two a storey
  * @property {number} verdict 1 to 4
+ * @property {number} startedBy31May1981 1 where work on the house started on that day or before; else 0
  */
 
 /**
@@ -236,6 +251,7 @@ function scoringAt(view) {
         scores: [0, 1, 2, 3, 4, 5].map((each) => numberAt(view, layout.scores + 4 * each)),
         count: numberAt(view, layout.count),
         verdict: numberAt(view, layout.verdict),
+        startedBy31May1981: numberAt(view, layout.started_by_31_may_1981),
     };
 }
 

@@ -28,14 +28,15 @@ function tableOf(bytes) {
 
 test("P1 is read, scored, reported and diagnosed", () => {
     const table = new Uint32Array(MOST_ROWS * ROW).fill(7);
-    assert.deepEqual(library.read(sheet, table), { ...accepted, count: 11 });
-    assert.deepEqual([...table.subarray(0, 16)], [1, 1, 2, 100, 1, 1, 2, 0, 2, 1, 4000, 5000, 1, 0, 0, 0]);
+    assert.deepEqual(library.read(sheet, table), { ...accepted, count: 12 });
+    assert.deepEqual([...table.subarray(0, 16)], [1, 1, 2, 100, 1, 1, 0, 0, 2, 1, 4000, 5000, 1, 0, 0, 0]);
     assert.deepEqual([...table.subarray(80, 88)], [5, 8191, 8, 0, 0, 0, 0, 0]);
-    assert.ok(table.subarray(88).every((number) => number === 7));
+    assert.deepEqual([...table.subarray(88, 96)], [8, 19800401, 19801001, 20120401, 0, 0, 0, 0]);
+    assert.ok(table.subarray(96).every((number) => number === 7));
 
-    const house = table.subarray(0, 88);
+    const house = table.subarray(0, 96);
     const scores = [47, 83, 0, 0, 0, 0];
-    assert.deepEqual(library.score(house), { ...accepted, scores, count: 2, verdict: 4 });
+    assert.deepEqual(library.score(house), { ...accepted, scores, count: 2, verdict: 4, startedBy31May1981: 1 });
 
     const bytes = new Uint8Array(200).fill(7);
     assert.deepEqual(library.writeReport(house, bytes), { ...accepted, count: 195 });
@@ -47,8 +48,17 @@ test("P1 is read, scored, reported and diagnosed", () => {
     assert.equal(text(output.bytes), report.padEnd(MOST_REPORT_BYTES, "\0"));
 });
 
+test("the record says whether work started by 31 May 1981, on that day too", () => {
+    const house = tableOf(sheet).slice();
+    for (const [start, started] of [[19810531, 1], [19810601, 0]]) {
+        house.set([start, 19820101], 89);
+        const { number, startedBy31May1981 } = library.score(house);
+        assert.deepEqual([number, startedBy31May1981], [0, started]);
+    }
+});
+
 test("a refusal has its number and place, and changes nothing that was lent", () => {
-    const table = new Uint32Array(88).fill(7);
+    const table = new Uint32Array(96).fill(7);
     const misprinted = sheet.slice();
     misprinted.set(new TextEncoder().encode("   02000"), 4 * LINE + 5 * 8);
     assert.deepEqual(library.read(misprinted, table), { number: 2, row: 5, column: 6, count: 0 });
@@ -59,7 +69,8 @@ test("a refusal has its number and place, and changes nothing that was lent", ()
     const house = tableOf(refused);
     const bytes = new Uint8Array(MOST_REPORT_BYTES).fill(7);
     const place = { number: 6, row: 3, column: 4 };
-    assert.deepEqual(library.score(house), { ...place, scores: [0, 0, 0, 0, 0, 0], count: 0, verdict: 0 });
+    const nothing = { scores: [0, 0, 0, 0, 0, 0], count: 0, verdict: 0, startedBy31May1981: 0 };
+    assert.deepEqual(library.score(house), { ...place, ...nothing });
     assert.deepEqual(library.writeReport(house, bytes), { ...place, count: 0 });
     const short = library.writeReport(tableOf(sheet), bytes.subarray(0, 194));
     assert.deepEqual(short, { number: 9, row: 0, column: 0, count: 0 });
@@ -70,17 +81,17 @@ test("a refusal has its number and place, and changes nothing that was lent", ()
 });
 
 test("only what is lent is filled, wherever it stands", () => {
-    const numbers = new Uint32Array(100).fill(7);
-    assert.equal(library.read(sheet, numbers.subarray(5, 93)).count, 11);
-    assert.ok([...numbers.subarray(0, 5), ...numbers.subarray(93)].every((number) => number === 7));
+    const numbers = new Uint32Array(108).fill(7);
+    assert.equal(library.read(sheet, numbers.subarray(5, 101)).count, 12);
+    assert.ok([...numbers.subarray(0, 5), ...numbers.subarray(101)].every((number) => number === 7));
     const bytes = new Uint8Array(300).fill(7);
-    assert.equal(library.writeReport(numbers.subarray(5, 93), bytes.subarray(3, 198)).count, 195);
+    assert.equal(library.writeReport(numbers.subarray(5, 101), bytes.subarray(3, 198)).count, 195);
     assert.ok([...bytes.subarray(0, 3), ...bytes.subarray(198)].every((byte) => byte === 7));
     assert.equal(text(bytes.subarray(3, 198)), report);
 });
 
 test("arguments may share a buffer: each is copied", () => {
-    const buffer = new ArrayBuffer(88 * 4);
+    const buffer = new ArrayBuffer(96 * 4);
     const house = new Uint32Array(buffer);
     house.set(tableOf(sheet));
     assert.equal(library.writeReport(house, new Uint8Array(buffer)).count, 195);
@@ -104,7 +115,7 @@ test("memory grows with what is given and what is lent", async () => {
         [(fresh) => fresh.read(bytes, new Uint32Array(1)), refusedWhole],
         [(fresh) => fresh.diagnose(bytes).number, 1],
         [(fresh) => fresh.score(numbers).number, 1],
-        [(fresh) => fresh.read(sheet, numbers), { ...accepted, count: 11 }],
+        [(fresh) => fresh.read(sheet, numbers), { ...accepted, count: 12 }],
         [(fresh) => fresh.writeReport(house, bytes), { ...accepted, count: 195 }],
     ];
     for (const [call, answer] of calls) assert.deepEqual(call(await load(wasm)), answer);
@@ -139,7 +150,7 @@ test("an array is as long as it is, whatever it says", () => {
 });
 
 test("another kind of argument is a TypeError that names it", () => {
-    const table = new Uint32Array(88);
+    const table = new Uint32Array(96);
     const bytes = new Uint8Array(MOST_REPORT_BYTES);
     const methods = {
         read: [["sheet", sheet], ["table", table]],
@@ -167,7 +178,7 @@ test("another kind of argument is a TypeError that names it", () => {
 test("an array whose memory is gone is a TypeError that names it", () => {
     const gone = new Uint8Array(sheet);
     structuredClone(gone.buffer, { transfer: [gone.buffer] });
-    const table = new Uint32Array(88);
+    const table = new Uint32Array(96);
     const message = (method, name) => new RegExp(`^${method}: the ${name}'s memory is gone`);
     assert.throws(() => library.diagnose(gone), { name: "TypeError", message: message("diagnose", "sheet") });
     assert.throws(() => library.writeReport(table, gone), { name: "TypeError", message: message("writeReport", "report") });

@@ -1,4 +1,4 @@
-//! The answers that document 01 names, shared by the library and the model.
+//! The answers that documents 01 and 02 name, shared by the library and the model.
 
 /// Why a sheet or table is refused, and where. Rows and columns count from 1; both are 0 where there is no place.
 #[derive(Debug, Clone, Copy, PartialEq, Eq)]
@@ -18,6 +18,8 @@ impl Refusal {
     pub const MARK_ON_ABSENT_PART: u32 = 7;
     pub const NO_PARTS: u32 = 8;
     pub const LENT_SPACE_SHORT: u32 = 9;
+    pub const NO_SUCH_DAY: u32 = 10;
+    pub const DATES_OUT_OF_ORDER: u32 = 11;
 
     /// A refusal of the whole sheet or table.
     pub const fn without_place(number: u32) -> Self {
@@ -26,7 +28,7 @@ impl Refusal {
 
     /// A refusal at a row and column, both counted from 1.
     pub const fn at(number: u32, row: usize, column: usize) -> Self {
-        // A row is at most one past the 311th, so neither place is ever cut short.
+        // A row is at most one past the last of the longest table, so neither place is ever cut short.
         Self {
             number,
             row: row as u32,
@@ -35,10 +37,13 @@ impl Refusal {
     }
 }
 
-/// Up to six scores in hundredths, ground storey first and X before Y, with their count and the verdict.
+/// Up to six scores in hundredths, ground storey first and X before Y, with their count and the verdict; and whether work
+/// on the house started by 31 May 1981, the grant's last day.
 #[derive(Debug, Clone, Copy, PartialEq, Eq)]
 pub struct Record {
     pub scores: [u32; 6],
     pub count: u32,
     pub verdict: u32,
+    /// 1 where it started on that day or before; else 0.
+    pub started_by_31_may_1981: u32,
 }

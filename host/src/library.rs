@@ -29,6 +29,7 @@ pub mod raw {
         pub scores: [u32; 6],
         pub count: u32,
         pub verdict: u32,
+        pub started_by_31_may_1981: u32,
     }
 
     /// `girderbasil_output`: what the scoring program prints, with the refusal that it tells.
@@ -78,6 +79,7 @@ pub fn score(table: &[u32]) -> Result<Record, Refusal> {
         scores: scoring.scores,
         count: scoring.count,
         verdict: scoring.verdict,
+        started_by_31_may_1981: scoring.started_by_31_may_1981,
     })
 }
 

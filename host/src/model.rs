@@ -1,7 +1,8 @@
-//! Document 01 as a program, a file for each of its sections, with the snow of document 02.
+//! Document 01 as a program, a file for each of its sections, with the snow and the dates of document 02.
 //!
 //! It shares no code and no table with the proved library, so that the two can be compared.
 
+pub mod calendar;
 pub mod deterioration;
 pub mod held;
 pub mod layout;

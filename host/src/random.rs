@@ -1,6 +1,7 @@
 //! Pseudo-random houses and sheets, and damage to them, the same in every run.
 
 pub mod damage;
+pub mod dates;
 pub mod house;
 
 /// A splitmix64 generator: what it draws follows from its seed alone.

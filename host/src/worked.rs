@@ -1,12 +1,12 @@
 //! Houses worked through in the papers: document 01's P1 and P10, and the manual's. Beside them P1 and another house
-//! under snow, and two sheets that are refused.
+//! under snow, P1 with other dates, and two sheets that are refused.
 
 use crate::{FIELD, LINE, ROW};
 
-/// P1's table; the other worked houses of document 01 are changes of it.
+/// P1's table, with the dates row that document 02 asks for; the other worked houses of document 01 are changes of it.
 #[rustfmt::skip]
-pub const TABLE: [u32; 88] = [
-    1, 1, 2, 100, 1, 1, 2, 0,
+pub const TABLE: [u32; 96] = [
+    1, 1, 2, 100, 1, 1, 0, 0,
     2, 1, 4000, 5000, 1, 0, 0, 0,
     3, 1, 1, 1000, 1000, 1, 1, 0,
     3, 1, 2, 1000, 1000, 1, 1, 0,
@@ -17,6 +17,7 @@ pub const TABLE: [u32; 88] = [
     4, 1, 2, 2, 20, 4000, 1, 1,
     4, 1, 2, 3, 20, 2000, 1, 1,
     5, 8191, 8, 0, 0, 0, 0, 0,
+    8, 19800401, 19801001, 20120401, 0, 0, 0, 0,
 ];
 
 /// P1's sheet, as the repository's examples have it.
@@ -30,7 +31,7 @@ pub const REPORT: &str = concat!(
 );
 
 /// P1's table under snow.
-pub const fn in_snow(snow: u32) -> [u32; 88] {
+pub const fn in_snow(snow: u32) -> [u32; 96] {
     let mut table = TABLE;
     table[ROW - 1] = snow;
     table
@@ -46,6 +47,35 @@ pub const REPORT_IN_DEEP_SNOW: &str = concat!(
     "       6       1       2    1600    4200     100      83      31\n",
     "       7       4      18       0       0       0       0       0\n",
 );
+
+/// P1's table with other dates: the start of work, the completion and the survey day.
+pub const fn with_dates(dates: [u32; 3]) -> [u32; 96] {
+    let mut table = TABLE;
+    let row = TABLE.len() - ROW;
+    [table[row + 1], table[row + 2], table[row + 3]] = dates;
+    table
+}
+
+/// The same with the corridor floor alone marked, which counts from the day on which the house is ten.
+pub const fn corridor_marked(dates: [u32; 3]) -> [u32; 96] {
+    let mut table = with_dates(dates);
+    table[TABLE.len() - 2 * ROW + 2] = 2_048;
+    table
+}
+
+/// The report of that house, by its age: 1 under ten years, where the factor is 1, and 2 from then on, where it is 23/24.
+pub const CORRIDOR_REPORTS: [&str; 2] = [
+    concat!(
+        "       6       1       1     920    1600     100     100      57\n",
+        "       6       1       2    1600    1600     100     100     100\n",
+        "       7       4      57       0       0       0       0       0\n",
+    ),
+    concat!(
+        "       6       1       1     920    1600     100      95      55\n",
+        "       6       1       2    1600    1600     100      95      95\n",
+        "       7       4      55       0       0       0       0       0\n",
+    ),
+];
 
 /// Sheets that are refused, each with the line that tells it: one by the reader, P1 with a leading zero in row 5,
 /// column 6; and one by scoring, the repository's example, whose ends in row 3 exceed their storey.
@@ -66,9 +96,9 @@ pub fn refused() -> [(Vec<u8>, &'static str); 2] {
 
 /// P10's table: no marks, and in X only end walls of 540 and 630 mm. Its score in X is 11 at zone 90, 14 at 100.
 #[rustfmt::skip]
-pub const fn better_end_falls(zone: u32) -> [u32; 80] {
+pub const fn better_end_falls(zone: u32) -> [u32; 88] {
     [
-        1, 1, 2, zone, 1, 1, 2, 0,
+        1, 1, 2, zone, 1, 1, 0, 0,
         2, 1, 4000, 5000, 1, 0, 0, 0,
         3, 1, 1, 1000, 1000, 1, 1, 0,
         3, 1, 2, 1000, 1000, 1, 1, 0,
@@ -78,14 +108,15 @@ pub const fn better_end_falls(zone: u32) -> [u32; 80] {
         4, 1, 2, 2, 20, 4000, 1, 1,
         4, 1, 2, 3, 20, 2000, 1, 1,
         5, 8191, 0, 0, 0, 0, 0, 0,
+        8, 19800401, 19801001, 20120401, 0, 0, 0, 0,
     ]
 }
 
 /// A very heavy house whose scores 1 m of snow raises: the factors of its joints IV rise by more than what is required.
 #[rustfmt::skip]
-pub const fn weak_joints(snow: u32) -> [u32; 160] {
+pub const fn weak_joints(snow: u32) -> [u32; 168] {
     [
-        1, 2, 3, 100, 1, 1, 2, snow,
+        1, 2, 3, 100, 1, 1, 0, snow,
         2, 1, 4000, 5000, 1, 0, 0, 0,
         2, 2, 4000, 5000, 1, 0, 0, 0,
         3, 1, 1, 1000, 1000, 2, 2, 0,
@@ -105,6 +136,7 @@ pub const fn weak_joints(snow: u32) -> [u32; 160] {
         4, 2, 2, 2, 31, 4550, 4, 1,
         4, 2, 2, 3, 31, 4550, 4, 1,
         5, 8191, 0, 0, 0, 0, 0, 0,
+        8, 19800401, 19801001, 20120401, 0, 0, 0, 0,
     ]
 }
 
@@ -114,8 +146,8 @@ pub const WEAK_JOINTS_SCORES: [[u32; 6]; 2] = [[60, 60, 47, 47, 0, 0], [62, 62, 
 /// The house that the manual works through: two storeys, heavy, very soft ground, foundation II, joints IV. Its
 /// openings of more than 3 m stand as rows of at most 3 m. Its marks are worth 7 of 21 points.
 #[rustfmt::skip]
-pub const MANUAL_TABLE: [u32; 304] = [
-    1, 2, 2, 100, 2, 2, 2, 0,
+pub const MANUAL_TABLE: [u32; 312] = [
+    1, 2, 2, 100, 2, 2, 0, 0,
     2, 1, 4968, 5460, 2, 0, 0, 0,
     2, 2, 4968, 5460, 2, 0, 0, 0,
     3, 1, 1, 1242, 1242, 2, 2, 0,
@@ -153,6 +185,7 @@ pub const MANUAL_TABLE: [u32; 304] = [
     4, 2, 2, 3, 31, 3640, 4, 1,
     4, 2, 2, 3, 0, 1820, 0, 2,
     5, 7967, 6152, 0, 0, 0, 0, 0,
+    8, 19800401, 19801001, 20120401, 0, 0, 0, 0,
 ];
 
 /// The report of the manual's house. Its layout factors are those of the manual's table 4.11, as document 01 has it,

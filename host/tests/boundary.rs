@@ -6,15 +6,18 @@
 
 mod common;
 
+use std::collections::BTreeMap;
 use std::fmt::Debug;
 use std::ptr;
 
-use common::calls::{Diagnose, Read, Score, WriteReport, raw_answer, sheet_of};
+use common::calls::{
+    DATES_REFUSALS, Diagnose, NUMBERS, Read, Score, WriteReport, raw_answer, sheet_of,
+};
 use girderbasil_host::answers::{Record, Refusal};
 use girderbasil_host::library::{self, raw};
 use girderbasil_host::model::{self, score::Diagnosis};
 use girderbasil_host::random::{Random, damage, house};
-use girderbasil_host::{LINE, MOST_REPORT_BYTES, MOST_ROWS, ROW, worked};
+use girderbasil_host::{LINE, MOST_REPORT_BYTES, MOST_ROWS, ROW, days, worked};
 
 const HOUSES: usize = 200_000;
 const DAMAGED_TABLES: usize = 300_000;
@@ -26,19 +29,31 @@ const DAMAGED_SHEETS: usize = 300_000;
 struct Tally {
     cases: usize,
     /// By number; 0 counts what was accepted.
-    read: [usize; 10],
-    scored: [usize; 10],
-    reported: [usize; 10],
-    printed: [usize; 10],
+    read: [usize; NUMBERS],
+    scored: [usize; NUMBERS],
+    reported: [usize; NUMBERS],
+    printed: [usize; NUMBERS],
     /// Sheets refused for lent space that have a misprint too.
     short_before_misprint: usize,
     /// Tables refused on another ground for whose report no space was lent.
     other_before_short: usize,
     /// Tables refused for a number just over the range of snow.
     just_over_snow: usize,
+    /// Tables refused for an age in the house row.
+    age_given: usize,
+    /// Tables refused at a dates row, by the refusal's number and column.
+    dates_refused: BTreeMap<(u32, u32), usize>,
+    /// Of these, those refused for a column out of range that have a date that is no day, and those refused for such a
+    /// date whose dates are out of order too.
+    range_before_day: usize,
+    day_before_order: usize,
     /// By snow, then by storeys.
     storeys: [[usize; 4]; 4],
     verdicts: [usize; 5],
+    /// By the age on the survey day, from 1.
+    ages: [usize; 3],
+    /// By whether work started by 31 May 1981.
+    started_by_then: [usize; 2],
     /// By the lower band and the higher.
     bands: [[usize; 5]; 5],
 }
@@ -47,10 +62,45 @@ impl Tally {
     fn count_house(&mut self, table: &[u32], record: &Record) {
         self.storeys[house::snow_of(table)][record.count as usize / 2] += 1;
         self.verdicts[record.verdict as usize] += 1;
+        self.started_by_then[record.started_by_31_may_1981 as usize] += 1;
         let diagnosis = Diagnosis::of(table).expect("the model scored it");
+        self.ages[diagnosis.survey.dates.age() as usize] += 1;
         for assessment in diagnosis.assessments() {
             let [a, b] = assessment.bands.map(|band| band as usize);
             self.bands[a.min(b)][a.max(b)] += 1;
+        }
+    }
+
+    fn count_refusal(&mut self, table: &[u32], refusal: &Refusal) {
+        match (refusal.number, refusal.row, refusal.column) {
+            (Refusal::OUT_OF_RANGE, 1, 7) => self.age_given += 1,
+            (Refusal::OUT_OF_RANGE, 1, 8) => {
+                self.just_over_snow += usize::from(house::snow_of(table) == 4);
+            }
+            _ => {}
+        }
+        // There is no row where the refusal has no place, or where the table ends early.
+        let rows = table.as_chunks::<ROW>().0;
+        let index = (refusal.row as usize).checked_sub(1);
+        if let Some(row @ [8, ..]) = index.and_then(|index| rows.get(index)) {
+            self.count_dates_refusal(row, refusal);
+        }
+    }
+
+    fn count_dates_refusal(&mut self, row: &[u32; ROW], refusal: &Refusal) {
+        let place = (refusal.number, refusal.column);
+        *self.dates_refused.entry(place).or_default() += 1;
+        let dates = &row[1..4];
+        let no_day = |date: &u32| {
+            let in_range = (days::FIRST..=days::LAST).contains(date);
+            in_range && days::all().binary_search(date).is_err()
+        };
+        match refusal.number {
+            Refusal::OUT_OF_RANGE => {
+                self.range_before_day += usize::from(dates.iter().any(no_day));
+            }
+            Refusal::NO_SUCH_DAY => self.day_before_order += usize::from(!dates.is_sorted()),
+            _ => {}
         }
     }
 
@@ -58,10 +108,9 @@ impl Tally {
         for storeys in &self.storeys {
             assert!(storeys[1..].iter().all(|&met| met >= least), "{self:?}");
         }
-        assert!(
-            self.verdicts[1..].iter().all(|&met| met >= least),
-            "{self:?}"
-        );
+        for met in [&self.verdicts[1..], &self.ages[1..], &self.started_by_then] {
+            assert!(met.iter().all(|&met| met >= least), "{self:?}");
+        }
         for lower in 0..5 {
             for higher in lower..5 {
                 assert!(self.bands[lower][higher] >= least);
@@ -69,7 +118,19 @@ impl Tally {
         }
     }
 
-    fn assert_answers(&self, answers: &[usize; 10], numbers: &[usize], least: usize) {
+    /// Asserts that dates rows were refused with 3, with 4 at each column after the first, and with 10 and 11 at each of
+    /// theirs, and nowhere else.
+    fn assert_dates_refused(&self, least: usize) {
+        let out_of_range = (2..=8).map(|column| (Refusal::OUT_OF_RANGE, column));
+        let mut places = vec![(Refusal::ROW_OUT_OF_ORDER, 1)];
+        places.extend(out_of_range.chain(DATES_REFUSALS));
+        assert!(self.dates_refused.keys().eq(&places), "{self:?}");
+        let met = self.dates_refused.values();
+        let met = met.chain([&self.range_before_day, &self.day_before_order]);
+        assert!(met.copied().all(|met| met >= least), "{self:?}");
+    }
+
+    fn assert_answers(&self, answers: &[usize; NUMBERS], numbers: &[usize], least: usize) {
         for (number, &met) in answers.iter().enumerate() {
             if numbers.contains(&number) {
                 assert!(met >= least, "number {number} was met {met} times");
@@ -133,10 +194,7 @@ fn check_table(random: &mut Random, table: &[u32], tally: &mut Tally) {
     tally.scored[number_of(&call.expected)] += 1;
     match &call.expected {
         Ok(record) => tally.count_house(table, record),
-        Err(refusal) => {
-            let for_snow = *refusal == Refusal::at(Refusal::OUT_OF_RANGE, 1, ROW);
-            tally.just_over_snow += usize::from(for_snow && house::snow_of(table) == 4);
-        }
+        Err(refusal) => tally.count_refusal(table, refusal),
     }
     check_report(random, table, tally);
 }
@@ -213,10 +271,12 @@ fn damaged_tables_are_refused_as_by_the_model() {
         damage::damage_table(random, &mut table);
         table
     });
-    tally.assert_answers(&tally.scored, &[0, 1, 3, 4, 5, 6, 7, 8], 500);
-    tally.assert_answers(&tally.reported, &[0, 1, 3, 4, 5, 6, 7, 8, 9], 500);
+    tally.assert_answers(&tally.scored, &[0, 1, 3, 4, 5, 6, 7, 8, 10, 11], 500);
+    tally.assert_answers(&tally.reported, &[0, 1, 3, 4, 5, 6, 7, 8, 9, 10, 11], 500);
     assert!(tally.other_before_short >= 1_000);
     assert!(tally.just_over_snow >= 1_000, "{tally:?}");
+    assert!(tally.age_given >= 1_000, "{tally:?}");
+    tally.assert_dates_refused(200);
     tally.assert_houses(50);
 }
 
@@ -224,9 +284,10 @@ fn damaged_tables_are_refused_as_by_the_model() {
 fn sheets_are_read_and_scored_as_by_the_model() {
     let tally = check_sheets(3, SHEETS, |random| sheet_of(&damage::any_table(random)));
     tally.assert_answers(&tally.read, &[0, 1, 9], 500);
-    tally.assert_answers(&tally.scored, &[0, 3, 4, 5, 6, 7, 8], 100);
-    tally.assert_answers(&tally.printed, &[0, 1, 3, 4, 5, 6, 7, 8], 1_000);
+    tally.assert_answers(&tally.scored, &[0, 3, 4, 5, 6, 7, 8, 10, 11], 100);
+    tally.assert_answers(&tally.printed, &[0, 1, 3, 4, 5, 6, 7, 8, 10, 11], 1_000);
     assert!(tally.read[0] >= SHEETS / 2);
+    tally.assert_dates_refused(50);
     tally.assert_houses(100);
 }
 

@@ -6,6 +6,7 @@ use std::fs::{self, File};
 use std::path::{Path, PathBuf};
 use std::process::{Command, Output, Stdio};
 
+use common::calls;
 use girderbasil_host::random::Random;
 use girderbasil_host::{LINE, MOST_ROWS, model, worked};
 
@@ -66,9 +67,24 @@ fn the_example_sheets() {
     assert!(met >= 3);
     let output = run(&program, &common::top().join("examples/p1.sheet"));
     assert_eq!(output.stdout, worked::REPORT.as_bytes());
-    let shown = "storey 1, direction X: 0.47\nstorey 1, direction Y: 0.83\nverdict 4\n";
+    let shown = "storey 1, direction X: 0.47\nstorey 1, direction Y: 0.83\nverdict 4\nwork started by 31 May 1981\n";
     assert_eq!(String::from_utf8_lossy(&output.stderr), shown);
     assert_eq!(output.status.code(), Some(0));
+}
+
+#[test]
+fn it_says_whether_work_started_by_31_may_1981() {
+    let folder = common::folder("started");
+    let program = compiled(&folder);
+    for (start, said) in [(19_810_531, "by"), (19_810_601, "after")] {
+        let table = worked::with_dates([start, 19_820_101, 20_120_401]);
+        let file = folder.join("house.sheet");
+        fs::write(&file, calls::sheet_of(&table)).expect("the sheet is written");
+        let output = run(&program, &file);
+        let line = format!("work started {said} 31 May 1981");
+        let shown = String::from_utf8_lossy(&output.stderr);
+        assert_eq!(shown.lines().last(), Some(line.as_str()));
+    }
 }
 
 #[test]

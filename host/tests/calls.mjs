@@ -11,7 +11,7 @@ const { girderbasil_answer, girderbasil_scoring, girderbasil_output } = LAYOUTS;
 // the struct's fields.
 const FUNCTIONS = {
     girderbasil_read: ["read", Uint8Array, Uint32Array, girderbasil_answer.size, 16],
-    girderbasil_score: ["score", Uint32Array, undefined, girderbasil_scoring.size, 44],
+    girderbasil_score: ["score", Uint32Array, undefined, girderbasil_scoring.size, 48],
     girderbasil_write_report: ["writeReport", Uint32Array, Uint8Array, girderbasil_answer.size, 16],
     girderbasil_diagnose: ["diagnose", Uint8Array, undefined, girderbasil_output.size, 16 + MOST_REPORT_BYTES],
 };

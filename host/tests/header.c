@@ -17,8 +17,8 @@
 /* More rows than any table here has. */
 #define ROOM 400
 
-static const uint32_t p1[11][COLUMNS] = {
-    {1, 1, 2, 100, 1, 1, 2, 0},
+static const uint32_t p1[12][COLUMNS] = {
+    {1, 1, 2, 100, 1, 1, 0, 0},
     {2, 1, 4000, 5000, 1, 0, 0, 0},
     {3, 1, 1, 1000, 1000, 1, 1, 0},
     {3, 1, 2, 1000, 1000, 1, 1, 0},
@@ -29,6 +29,7 @@ static const uint32_t p1[11][COLUMNS] = {
     {4, 1, 2, 2, 20, 4000, 1, 1},
     {4, 1, 2, 3, 20, 2000, 1, 1},
     {5, 8191, 8, 0, 0, 0, 0, 0},
+    {8, 19800401, 19801001, 20120401, 0, 0, 0, 0},
 };
 
 static const char p1_report[] =
@@ -64,7 +65,7 @@ static void make_p1(void)
     size_t row;
 
     rows = 0;
-    for (row = 1; row <= 11; row++)
+    for (row = 1; row <= 12; row++)
         add(row);
 }
 
@@ -90,6 +91,7 @@ static void make_house(uint32_t storeys, size_t walls)
     for (; walls > 0; walls--)
         add(10);
     add(11);
+    add(12);
 }
 
 /* Prints the table at hand as a sheet. */
@@ -131,7 +133,8 @@ static void compare_answer(const char *of_what, girderbasil_answer told, uint32_
 }
 
 static void compare_scoring(const char *of_what, girderbasil_scoring told, uint32_t number, uint32_t row,
-                            uint32_t column, const uint32_t scores[6], uint32_t count, uint32_t verdict)
+                            uint32_t column, const uint32_t scores[6], uint32_t count, uint32_t verdict,
+                            uint32_t started)
 {
     size_t each;
 
@@ -142,6 +145,7 @@ static void compare_scoring(const char *of_what, girderbasil_scoring told, uint3
         compare(of_what, "score", told.scores[each], scores[each]);
     compare(of_what, "count", told.count, count);
     compare(of_what, "verdict", told.verdict, verdict);
+    compare(of_what, "start of work", told.started_by_31_may_1981, started);
 }
 
 /* What is printed for a sheet: the fields, the bytes from the front, and 0 in every byte after them. */
@@ -189,7 +193,7 @@ static void numbers_refused(const char *of_what, size_t numbers, uint32_t number
 {
     static const uint32_t none[6] = {0, 0, 0, 0, 0, 0};
 
-    compare_scoring(of_what, girderbasil_score(table, numbers), number, row, column, none, 0, 0);
+    compare_scoring(of_what, girderbasil_score(table, numbers), number, row, column, none, 0, 0, 0);
     compare_answer(of_what, write_report(numbers, sizeof lent_report), number, row, column, 0);
 }
 
@@ -215,11 +219,28 @@ static void try_p1(void)
 
     make_p1();
     make_sheet();
-    compare_answer("P1, read", read_sheet(sheet_length, ROOM * COLUMNS), 0, 0, 0, 11);
+    compare_answer("P1, read", read_sheet(sheet_length, ROOM * COLUMNS), 0, 0, 0, 12);
     compare_bytes("P1, read", lent_table, p1, sizeof p1);
-    compare_scoring("P1, scored", girderbasil_score(table, rows * COLUMNS), 0, 0, 0, scores, 2, 4);
+    compare_scoring("P1, scored", girderbasil_score(table, rows * COLUMNS), 0, 0, 0, scores, 2, 4, 1);
     compare_answer("P1, reported", write_report(rows * COLUMNS, sizeof lent_report), 0, 0, 0, bytes);
     compare_bytes("P1, reported", lent_report, p1_report, bytes);
+}
+
+/* P1 with work that started on a day, and a completion after each day that is tried. */
+static void try_start(const char *of_what, uint32_t day, uint32_t started)
+{
+    static const uint32_t scores[6] = {47, 83, 0, 0, 0, 0};
+
+    make_p1();
+    put(12, 2, day);
+    put(12, 3, 19820101);
+    compare_scoring(of_what, girderbasil_score(table, rows * COLUMNS), 0, 0, 0, scores, 2, 4, started);
+}
+
+static void try_starts(void)
+{
+    try_start("work started on 31 May 1981", 19810531, 1);
+    try_start("work started on 1 June 1981", 19810601, 0);
 }
 
 static void try_refusals(void)
@@ -239,7 +260,7 @@ static void try_refusals(void)
 
     p1_refused("the ends of X again", 4, 3, 1, GIRDERBASIL_ROW_OUT_OF_ORDER, 4, 1);
     p1_refused("a zone there is not", 1, 4, 95, GIRDERBASIL_OUT_OF_RANGE, 1, 4);
-    make_house(1, 301);
+    make_house(1, GIRDERBASIL_MOST_WALLS + 1);
     table_refused("301 walls", GIRDERBASIL_TOO_MANY_WALLS, 305, 1);
     p1_refused("ends that exceed the storey", 3, 5, 3001, GIRDERBASIL_ENDS_EXCEED_STOREY, 3, 4);
     p1_refused("a marked part that is absent", 11, 2, 8183, GIRDERBASIL_MARK_ON_ABSENT_PART, 11, 3);
@@ -247,6 +268,8 @@ static void try_refusals(void)
     put(11, 2, 0);
     put(11, 3, 0);
     table_refused("no parts", GIRDERBASIL_NO_PARTS, 11, 2);
+    p1_refused("29 February 1900", 12, 2, 19000229, GIRDERBASIL_NO_SUCH_DAY, 12, 2);
+    p1_refused("a survey before the completion", 12, 4, 19800930, GIRDERBASIL_DATES_OUT_OF_ORDER, 12, 4);
 
     make_p1();
     make_sheet();
@@ -322,6 +345,7 @@ static void try_printed(void)
 int main(void)
 {
     try_p1();
+    try_starts();
     try_refusals();
     try_line_and_row();
     try_most_rows();

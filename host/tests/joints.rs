@@ -10,7 +10,7 @@ use girderbasil_host::{LINE, MOST_REPORT_BYTES, library};
 fn table_of(house: &House, joint: u32, strength: u32) -> Vec<u32> {
     let storeys = house.storeys;
     let mut table = vec![1, storeys, house.weight, house.zone, house.ground];
-    table.extend([house.foundation, house.age, house.snow]);
+    table.extend([house.foundation, 0, house.snow]);
     for storey in 1..=storeys {
         table.extend([2, storey, 4000, 5000, 1, 0, 0, 0]);
     }
@@ -25,6 +25,7 @@ fn table_of(house: &House, joint: u32, strength: u32) -> Vec<u32> {
         }
     }
     table.extend([5, 8191, 0, 0, 0, 0, 0, 0]);
+    table.extend([8, 19_800_401, 19_801_001, 20_120_401, 0, 0, 0, 0]);
     table
 }
 
@@ -35,7 +36,6 @@ fn light(storeys: u32, foundation: u32, snow: u32) -> House {
         zone: 100,
         ground: 1,
         foundation,
-        age: 2,
         snow,
     }
 }

@@ -8,7 +8,7 @@ use std::process::Command;
 
 use common::header;
 use girderbasil_host::library::raw;
-use girderbasil_host::{LINE, MOST_REPORT_BYTES, MOST_ROWS, ROW};
+use girderbasil_host::{LINE, MOST_REPORT_BYTES, MOST_ROWS, MOST_WALLS, ROW};
 
 /// A struct's size, and where its fields begin, as [`header::layouts`] has them.
 macro_rules! layout {
@@ -23,9 +23,8 @@ macro_rules! layout {
 fn layouts_in_rust() -> Vec<String> {
     let mut layouts = vec![];
     layouts.extend(layout!("girderbasil_answer", raw::Answer: number row column count));
-    layouts.extend(
-        layout!("girderbasil_scoring", raw::Scoring: number row column scores count verdict),
-    );
+    layouts.extend(layout!("girderbasil_scoring", raw::Scoring:
+        number row column scores count verdict started_by_31_may_1981));
     layouts.extend(layout!("girderbasil_output", raw::Output: number row column count bytes));
     layouts
 }
@@ -35,6 +34,7 @@ fn sizes_in_rust() -> Vec<String> {
     vec![
         format!("LINE = {LINE}"),
         format!("ROW = {ROW}"),
+        format!("MOST_WALLS = {MOST_WALLS}"),
         format!("MOST_ROWS = {MOST_ROWS}"),
         format!("MOST_REPORT_BYTES = {MOST_REPORT_BYTES}"),
     ]
@@ -43,16 +43,20 @@ fn sizes_in_rust() -> Vec<String> {
 #[test]
 fn rust_has_the_layouts_of_the_header() {
     let asserted = header::layouts();
-    assert!(asserted.len() >= 18, "{asserted:?}");
+    assert!(asserted.len() >= 19, "{asserted:?}");
     assert_eq!(layouts_in_rust(), asserted);
 }
 
 #[test]
 fn rust_has_the_sizes_of_the_header() {
-    let last = "MOST_REPORT_BYTES = 455";
+    // The header works two of them out from others.
+    let worked_out = [
+        ("= 312", "= 1 + 3 + 6 + GIRDERBASIL_MOST_WALLS + 1 + 1"),
+        ("= 455", "= 7 * GIRDERBASIL_LINE"),
+    ];
     for size in sizes_in_rust() {
-        // The header has the last as a product.
-        let named = size.replace(last, "MOST_REPORT_BYTES = 7 * GIRDERBASIL_LINE");
+        let replace = |size: String, (number, sum)| size.replace(number, sum);
+        let named = worked_out.into_iter().fold(size.clone(), replace);
         let line = format!("    GIRDERBASIL_{named}");
         let found = header::HEADER
             .lines()

@@ -2,9 +2,9 @@
 
 use std::collections::BTreeMap;
 
-use girderbasil_host::ROW;
 use girderbasil_host::model::score::Diagnosis;
 use girderbasil_host::random::{Random, house};
+use girderbasil_host::{ROW, days, model};
 
 const HOUSES: usize = 20_000;
 
@@ -86,6 +86,95 @@ fn half_of_the_houses_are_in_snow() {
         }
         assert!(met[0].abs_diff(HOUSES / 2) < HOUSES / 20, "{met:?}");
         assert!(met.iter().all(|&met| met >= HOUSES / 7), "{met:?}");
+    }
+}
+
+/// Houses are under ten years and older about as often, and work on many started by 31 May 1981.
+#[test]
+fn half_of_the_houses_are_ten() {
+    for maker in [
+        house::surveyed as fn(&mut Random) -> Vec<u32>,
+        house::on_edges,
+        house::extreme,
+    ] {
+        let mut random = Random::new(20);
+        let (mut ten, mut started_by_then) = (0_usize, 0);
+        for _ in 0..HOUSES {
+            let table = maker(&mut random);
+            let dates = model::judge(&table).expect("a house is accepted").dates;
+            ten += usize::from(dates.age() == 2);
+            started_by_then += usize::from(dates.started_by_31_may_1981());
+        }
+        assert!(ten.abs_diff(HOUSES / 2) < HOUSES / 20, "{ten}");
+        let share = HOUSES / 4..HOUSES / 2;
+        assert!(share.contains(&started_by_then), "{started_by_then}");
+    }
+}
+
+/// What may be said of a house's dates: start of work, completion and survey day.
+type Edge = (&'static str, fn([u32; 3]) -> bool);
+
+const EDGES: [Edge; 19] = [
+    ("all on one day", |[start, completion, survey]| {
+        start == completion && completion == survey
+    }),
+    (
+        "completed on the day work started",
+        |[start, completion, survey]| start == completion && completion < survey,
+    ),
+    ("surveyed on completion", |[start, completion, survey]| {
+        start < completion && completion == survey
+    }),
+    ("started on the first day", |[start, ..]| {
+        start == days::FIRST
+    }),
+    ("started on the last day", |[start, ..]| start == days::LAST),
+    ("surveyed on the last day", |[.., survey]| {
+        survey == days::LAST
+    }),
+    ("started on 30 May 1981", |[start, ..]| start == 19_810_530),
+    ("started on 31 May 1981", |[start, ..]| start == 19_810_531),
+    ("started on 1 June 1981", |[start, ..]| start == 19_810_601),
+    ("started on 2 June 1981", |[start, ..]| start == 19_810_602),
+    ("the day before it is ten", |[_, completion, survey]| {
+        days::ten_years_after(completion) == Some(days::next(survey)) && survey < days::LAST
+    }),
+    ("the day it is ten", |[_, completion, survey]| {
+        days::ten_years_after(completion) == Some(survey)
+    }),
+    ("the day after it is ten", |[_, completion, survey]| {
+        days::ten_years_after(completion) == Some(days::previous(survey))
+    }),
+    (
+        "29 February, ten years less a day",
+        |[_, completion, survey]| completion % 10_000 == 229 && survey == completion + 99_999,
+    ),
+    (
+        "29 February, the 1 March ten years after",
+        |[_, completion, survey]| completion % 10_000 == 229 && survey == completion + 100_072,
+    ),
+    ("in 2000 completed on 29 February", |[_, completion, _]| {
+        completion == 20_000_229
+    }),
+    ("ten on the last day", |[_, completion, survey]| {
+        completion == 21_891_231 && survey == days::LAST
+    }),
+    ("a day too late to be ten", |[_, completion, survey]| {
+        completion == 21_900_101 && survey == days::LAST
+    }),
+    ("never ten", |[_, completion, _]| completion == 21_950_101),
+];
+
+#[test]
+fn days_at_every_edge_are_met() {
+    let mut random = Random::new(21);
+    let houses: Vec<[u32; 3]> = (0..HOUSES)
+        .map(|_| house::dates_of(&house::house(&mut random)))
+        .collect();
+    for (name, holds) in EDGES {
+        let met = houses.iter().filter(|&&dates| holds(dates)).count();
+        println!("{name}: {met}");
+        assert!(met >= 20, "{name}: {met}");
     }
 }
 

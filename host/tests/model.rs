@@ -28,7 +28,7 @@ fn changed(changes: &[(usize, usize, u32)]) -> Vec<u32> {
 fn with_walls(count: usize) -> Vec<u32> {
     #[rustfmt::skip]
     let mut table = vec![
-        1, 2, 1, 100, 1, 1, 2, 0,
+        1, 2, 1, 100, 1, 1, 0, 0,
         2, 1, 4000, 3999, 1, 0, 0, 0,
         2, 2, 4000, 3999, 1, 0, 0, 0,
         3, 1, 1, 1000, 1000, 2, 2, 0,
@@ -40,6 +40,7 @@ fn with_walls(count: usize) -> Vec<u32> {
         table.extend([4, 1, 1, 2, 20, 1000, 1, 1]);
     }
     table.extend([5, ALL_PARTS, 0, 0, 0, 0, 0, 0]);
+    table.extend([8, 19_800_401, 19_801_001, 20_120_401, 0, 0, 0, 0]);
     table
 }
 
@@ -50,7 +51,6 @@ fn two_storeys(foundation: u32) -> House {
         zone: 100,
         ground: 1,
         foundation,
-        age: 2,
         snow: 0,
     }
 }
@@ -74,7 +74,8 @@ fn p1_is_read_scored_and_printed_as_the_paper_has_it() {
         Ok(Record {
             scores: [47, 83, 0, 0, 0, 0],
             count: 2,
-            verdict: 4
+            verdict: 4,
+            started_by_31_may_1981: 1
         })
     );
     let report = model::write_report(&table, worked::REPORT.len()).unwrap();
@@ -327,6 +328,7 @@ fn refusals_of_scoring_in_their_order() {
     assert_eq!(judged(&[(1, 1, 2)]), refused(3, 1, 1));
     assert_eq!(judged(&[(2, 2, 2), (2, 3, 0)]), refused(3, 2, 1));
     assert_eq!(judged(&[(1, 4, 75), (1, 8, 4)]), refused(4, 1, 4));
+    assert_eq!(judged(&[(1, 7, 2), (1, 8, 4)]), refused(4, 1, 7));
     assert_eq!(judged(&[(1, 8, 4)]), refused(4, 1, 8));
     assert_eq!(judged(&[(3, 3, 2)]), refused(3, 3, 1));
     assert_eq!(judged(&[(5, 2, 0)]), refused(4, 5, 2));
@@ -339,14 +341,14 @@ fn refusals_of_scoring_in_their_order() {
     assert_eq!(judged(&[(11, 2, 0), (11, 3, 0)]), refused(8, 11, 2));
     assert_eq!(judged(&[(10, 1, 5)]), refused(4, 10, 4));
     assert_eq!(
-        model::score(&worked::TABLE[..80]),
+        model::score(&worked::TABLE[..10 * ROW]),
         Err(refused(3, 11, 1)),
         "the table ends early"
     );
     assert_eq!(
         model::score(&[&worked::TABLE[..], &[9; 8]].concat()),
-        Err(refused(3, 12, 1)),
-        "a row after the parts"
+        Err(refused(3, 13, 1)),
+        "a row after the dates"
     );
 }
 
@@ -367,7 +369,10 @@ fn lengths_and_lent_space() {
         model::write_report(&worked::TABLE[1..], 0),
         length.map(|_| vec![])
     );
-    assert_eq!(model::write(&worked::TABLE, 714), short.map(|_| vec![]));
+    assert_eq!(
+        model::write(&worked::TABLE, 12 * LINE - 1),
+        short.map(|_| vec![])
+    );
     assert_eq!(
         model::write(&changed(&[(2, 3, 100_000_000)]), 0),
         Err(refused(4, 2, 3))

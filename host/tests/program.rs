@@ -2,6 +2,7 @@
 
 mod common;
 
+use common::calls::NUMBERS;
 use girderbasil_host::random::{Random, house};
 use girderbasil_host::{LINE, MOST_ROWS, ROW, model, worked};
 
@@ -28,8 +29,9 @@ fn refusal_number(printed: &[u8]) -> usize {
 #[test]
 fn the_program_prints_what_the_model_does() {
     let mut random = Random::new(10);
-    let mut met = [0; 10];
+    let mut met = [0; NUMBERS];
     let mut snow = [0; 4];
+    let mut ages = [0; 3];
     for _ in 0..SHEETS {
         let sheet = common::any_sheet(&mut random);
         let printed = printed(&sheet);
@@ -44,13 +46,18 @@ fn the_program_prints_what_the_model_does() {
         if number == 0 {
             let table = model::read(&sheet, MOST_ROWS * ROW).expect("it was scored");
             snow[house::snow_of(&table)] += 1;
+            let survey = model::judge(&table).expect("it was scored");
+            ages[survey.dates.age() as usize] += 1;
         }
     }
-    assert!(
-        met[..9].iter().all(|&met| met >= 2) && met[0] >= SHEETS / 5,
-        "{met:?}"
-    );
+    assert!(met[0] >= SHEETS / 5, "{met:?}");
+    for (number, met) in met.into_iter().enumerate() {
+        // The program lends room for every report, so it never tells 9.
+        let enough = if number == 9 { met == 0 } else { met >= 2 };
+        assert!(enough, "number {number} was met {met} times");
+    }
     assert!(snow.iter().all(|&met| met >= 5), "{snow:?}");
+    assert!(ages[1..].iter().all(|&met| met >= 5), "{ages:?}");
 }
 
 #[test]
@@ -60,6 +67,14 @@ fn worked_houses() {
     assert_eq!(printed(&sheet), worked::MANUAL_REPORT.as_bytes());
     let sheet = model::write(&worked::in_snow(3), usize::MAX).expect("it has a sheet");
     assert_eq!(printed(&sheet), worked::REPORT_IN_DEEP_SNOW.as_bytes());
+    for (survey, report) in [20_100_228, 20_100_301]
+        .into_iter()
+        .zip(worked::CORRIDOR_REPORTS)
+    {
+        let table = worked::corridor_marked([19_990_401, 20_000_229, survey]);
+        let sheet = model::write(&table, usize::MAX).expect("it has a sheet");
+        assert_eq!(String::from_utf8_lossy(&printed(&sheet)), report);
+    }
 }
 
 #[test]

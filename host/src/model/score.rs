@@ -11,7 +11,7 @@ const MOST_SCORE: u64 = 999;
 
 /// A survey with what is worked out once for the whole house.
 pub struct Diagnosis<'table> {
-    survey: Survey<'table>,
+    pub survey: Survey<'table>,
     held: [[Held; 2]; 3],
     deterioration: Fraction,
 }
@@ -39,7 +39,7 @@ impl<'table> Diagnosis<'table> {
         Ok(Self {
             survey,
             held: held::held(&survey),
-            deterioration: deterioration::factor(survey.house.age, survey.parts),
+            deterioration: deterioration::factor(survey.dates.age(), survey.parts),
         })
     }
 
@@ -107,6 +107,7 @@ pub fn score(table: &[u32]) -> Result<Record, Refusal> {
         scores,
         count,
         verdict: verdict(*least.expect("a house has a storey")),
+        started_by_31_may_1981: u32::from(diagnosis.survey.dates.started_by_31_may_1981()),
     })
 }
 

@@ -1,5 +1,8 @@
 //! "The sheet and the table", its kinds of rows, and "What a refused sheet is told", as scoring tests them.
 
+use std::ops::RangeInclusive;
+
+use super::calendar::{Dates, Day};
 use super::sheet::{Row, whole_rows};
 use crate::answers::Refusal;
 use crate::{MOST_WALLS, ROW};
@@ -9,22 +12,27 @@ const STOREY: u32 = 2;
 const ENDS: u32 = 3;
 const WALL: u32 = 4;
 const PARTS: u32 = 5;
+const DATES: u32 = 8;
 
 /// The largest set of parts: all thirteen items.
 const ALL_PARTS: u32 = 8191;
+
+/// "from 19000101 to 21991231, else number 4".
+const DAYS: RangeInclusive<u32> = 19_000_101..=21_991_231;
 
 /// A table that scoring refuses on no ground.
 #[derive(Debug, Clone, Copy)]
 pub struct Survey<'table> {
     pub house: House,
     pub parts: Parts,
+    pub dates: Dates,
     storeys: &'table [Row],
     ends: &'table [Row],
     walls: &'table [Row],
 }
 
-/// Weight class, ground, foundation and age are document 01's numbers for them; the zone is in hundredths. Snow is
-/// document 02's: 0 none, 1 for 1 m cleared, 2 for 2 m, 3 for 2.5 m.
+/// Weight class, ground and foundation are document 01's numbers for them; the zone is in hundredths. Snow is document
+/// 02's: 0 none, 1 for 1 m cleared, 2 for 2 m, 3 for 2.5 m.
 #[derive(Debug, Clone, Copy)]
 pub struct House {
     pub storeys: u32,
@@ -32,7 +40,6 @@ pub struct House {
     pub zone: u32,
     pub ground: u32,
     pub foundation: u32,
-    pub age: u32,
     pub snow: u32,
 }
 
@@ -135,14 +142,17 @@ pub fn judge(table: &[u32]) -> Result<Survey<'_>, Refusal> {
         judge_ends(rows, index, count)?;
     }
     let walls = judge_walls(rows, first_wall, house.storeys)?;
-    let last = first_wall + walls.len();
-    let parts = judge_parts(rows, last)?;
+    let after_walls = first_wall + walls.len();
+    let parts = judge_parts(rows, after_walls)?;
+    let last = after_walls + 1;
+    let dates = judge_dates(rows, last)?;
     if rows.len() > last + 1 {
         return Err(refusal(Refusal::ROW_OUT_OF_ORDER, last + 1, 1));
     }
     Ok(Survey {
         house,
         parts,
+        dates,
         storeys: &rows[1..first_end],
         ends: &rows[first_end..first_wall],
         walls,
@@ -178,7 +188,7 @@ fn judge_house(rows: &[Row]) -> Result<House, Refusal> {
         matches!(zone, 70 | 80 | 90 | 100),
         matches!(ground, 1..=2),
         matches!(foundation, 1..=3),
-        matches!(age, 1..=2),
+        age == 0,
         matches!(snow, 0..=3),
     ];
     judge_columns(0, in_range)?;
@@ -188,7 +198,6 @@ fn judge_house(rows: &[Row]) -> Result<House, Refusal> {
         zone,
         ground,
         foundation,
-        age,
         snow,
     })
 }
@@ -298,4 +307,38 @@ fn judge_parts(rows: &[Row], index: usize) -> Result<Parts, Refusal> {
         return Err(refusal(Refusal::NO_PARTS, index, 2));
     }
     Ok(Parts { present, marked })
+}
+
+/// The dates row, which must follow the parts row: its ranges are tested first, then whether there are such days, then
+/// their order.
+fn judge_dates(rows: &[Row], index: usize) -> Result<Dates, Refusal> {
+    let [_, start, completion, survey, unused @ ..] = *due(rows, index, &[DATES])?;
+    let in_range = [
+        true,
+        DAYS.contains(&start),
+        DAYS.contains(&completion),
+        DAYS.contains(&survey),
+        unused[0] == 0,
+        unused[1] == 0,
+        unused[2] == 0,
+        unused[3] == 0,
+    ];
+    judge_columns(index, in_range)?;
+    let day = |number, column| {
+        Day::from_digits(number).ok_or(refusal(Refusal::NO_SUCH_DAY, index, column))
+    };
+    let start = day(start, 2)?;
+    let completion = day(completion, 3)?;
+    let survey = day(survey, 4)?;
+    if completion < start {
+        return Err(refusal(Refusal::DATES_OUT_OF_ORDER, index, 3));
+    }
+    if survey < completion {
+        return Err(refusal(Refusal::DATES_OUT_OF_ORDER, index, 4));
+    }
+    Ok(Dates {
+        start,
+        completion,
+        survey,
+    })
 }

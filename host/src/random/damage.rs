@@ -1,11 +1,14 @@
 //! Damage to tables and sheets, so that each refusal is met. Damage may also leave a table or sheet that is accepted.
 
+mod dates;
+
 use super::Random;
 use super::house;
 use crate::{FIELD, LINE, MOST_ROWS, MOST_WALLS, ROW};
 
-const WALL: u32 = 4;
 const ENDS: u32 = 3;
+const WALL: u32 = 4;
+const PARTS: u32 = 5;
 
 /// Numbers just over a range, near the largest that a field holds, or large.
 const LARGE: [u32; 14] = [
@@ -39,7 +42,7 @@ pub fn damage_table(random: &mut Random, table: &mut Vec<u32>) {
 }
 
 fn damage_table_once(random: &mut Random, table: &mut Vec<u32>) {
-    match random.below(17) {
+    match random.below(20) {
         0 => change_number(random, table, |random, number| {
             number.wrapping_add(random.pick(&[1, 2, u32::MAX]))
         }),
@@ -58,7 +61,8 @@ fn damage_table_once(random: &mut Random, table: &mut Vec<u32>) {
         13 => exceed_storey(random, table),
         14 => mark_absent_part(random, table),
         15 => remove_parts(random, table),
-        _ => change_snow(random, table),
+        16 => change_snow(random, table),
+        _ => dates::damage_dates(random, table),
     }
 }
 
@@ -82,9 +86,10 @@ fn any_row(random: &mut Random, table: &[u32]) -> Option<usize> {
     }
 }
 
-/// The last row, which in an undamaged table has the parts.
-fn last_row(table: &mut [u32]) -> Option<&mut [u32; ROW]> {
-    table.as_chunks_mut().0.last_mut()
+/// The last row of a kind.
+fn last_row(table: &mut [u32], kind: u32) -> Option<&mut [u32; ROW]> {
+    let rows = table.as_chunks_mut().0.iter_mut();
+    rows.rev().find(|row| row[0] == kind)
 }
 
 fn change_number(random: &mut Random, table: &mut [u32], change: fn(&mut Random, u32) -> u32) {
@@ -132,7 +137,7 @@ fn add_rows(random: &mut Random, table: &mut Vec<u32>) {
 
 fn change_kind(random: &mut Random, table: &mut [u32]) {
     if let Some(start) = any_row(random, table) {
-        table[start] = random.between(0, 7);
+        table[start] = random.between(0, 9);
     }
 }
 
@@ -152,8 +157,9 @@ fn break_length(random: &mut Random, table: &mut Vec<u32>) {
     }
 }
 
-/// Makes of a house's walls 299 to 302; in a house of three storeys 301 are over 311 rows. Now and then a number of the
-/// last wall changes, so that a wall too many has another fault.
+/// Makes of a house's walls 299 to 302; in a house of three storeys 301 are more rows than a table may have, unless its
+/// last row goes, as it does now and then. Now and then a number of the last wall changes, so that a wall too many has
+/// another fault.
 fn add_walls(random: &mut Random, table: &mut Vec<u32>) {
     let walls = starts_of(table, WALL);
     let Some(&last) = walls.last() else { return };
@@ -165,9 +171,12 @@ fn add_walls(random: &mut Random, table: &mut Vec<u32>) {
         let column = random.between(1, 7) as usize;
         table[last + missing * ROW + column] = random.pick(&[0, 1, 4, u32::MAX]);
     }
+    if random.chance(25) {
+        table.truncate(table.len() - ROW);
+    }
 }
 
-/// Makes a table of 310 to 320 rows.
+/// Makes a table of as many rows as the longest has, one less, or up to nine more.
 fn lengthen(random: &mut Random, table: &mut Vec<u32>) {
     let wanted = MOST_ROWS - 1 + random.below(11);
     while rows(table) > 0 && rows(table) < wanted {
@@ -196,7 +205,7 @@ fn exceed_storey(random: &mut Random, table: &mut [u32]) {
 
 fn mark_absent_part(random: &mut Random, table: &mut [u32]) {
     let part = 1 << random.below(13);
-    if let Some([_, present, marked, ..]) = last_row(table) {
+    if let Some([_, present, marked, ..]) = last_row(table, PARTS) {
         *present &= !part;
         *marked |= part;
     }
@@ -204,7 +213,7 @@ fn mark_absent_part(random: &mut Random, table: &mut [u32]) {
 
 fn remove_parts(random: &mut Random, table: &mut [u32]) {
     let clear_marks = random.chance(75);
-    if let Some([_, present, marked, ..]) = last_row(table) {
+    if let Some([_, present, marked, ..]) = last_row(table, PARTS) {
         *present = 0;
         if clear_marks {
             *marked = 0;
@@ -332,7 +341,7 @@ fn change_last_byte(random: &mut Random, sheet: &mut [u8]) {
     }
 }
 
-/// Repeats the sheet's lines up to 311 of them, or over.
+/// Repeats the sheet's lines until it has one less than the longest, as many, or up to two more.
 fn repeat_lines(random: &mut Random, sheet: &mut Vec<u8>) {
     let wanted = (MOST_ROWS - 1 + random.below(4)) * LINE;
     if !sheet.is_empty() {

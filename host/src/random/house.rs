@@ -1,6 +1,8 @@
 //! Makers of tables that scoring refuses on no ground.
 
 use super::Random;
+use super::dates::dates_row;
+use crate::ROW;
 
 const ALL_PARTS: u32 = 8191;
 const ZONES: [u32; 4] = [70, 80, 90, 100];
@@ -28,6 +30,22 @@ const UNIT_AREA: u32 = 100;
 /// The snow of a house, by its table.
 pub fn snow_of(table: &[u32]) -> usize {
     table[7] as usize
+}
+
+/// The start of work, the completion and the survey day of a house, by its table.
+pub fn dates_of(table: &[u32]) -> [u32; 3] {
+    let survey = survey_day(table);
+    [table[survey - 2], table[survey - 1], table[survey]]
+}
+
+/// The index of a house's survey day in its table.
+pub fn survey_day(table: &[u32]) -> usize {
+    table.len() - ROW + 3
+}
+
+/// The index of a house's marked set in its table.
+pub fn marked_set(table: &[u32]) -> usize {
+    table.len() - 2 * ROW + 2
 }
 
 /// A house of any of the sorts below.
@@ -60,6 +78,7 @@ pub fn surveyed(random: &mut Random) -> Vec<u32> {
     }
     table.extend(walls);
     table.extend(parts_row(random));
+    table.extend(dates_row(random));
     table
 }
 
@@ -99,6 +118,7 @@ pub fn with_walls(random: &mut Random, storeys: u32, count: u32) -> Vec<u32> {
         table.extend(extreme_wall(random, storey));
     }
     table.extend(parts_row(random));
+    table.extend(dates_row(random));
     table
 }
 
@@ -109,11 +129,10 @@ pub fn with_walls(random: &mut Random, storeys: u32, count: u32) -> Vec<u32> {
 /// hundredths of 1 kN a square metre; so a millimetre of wall is a hundredth of what a square metre requires. On
 /// foundation 1 joint 1 lessens no wall of one storey, whatever its strength and the snow.
 pub fn on_edges(random: &mut Random) -> Vec<u32> {
-    let age = random.between(1, 2);
     let snow = random.pick(&SNOW);
     let strength = REQUIRED_ON_EDGES[snow as usize];
     let size = random.between(2, 100);
-    let mut table = vec![1, 1, 1, 100, 1, 1, age, snow];
+    let mut table = vec![1, 1, 1, 100, 1, 1, 0, snow];
     table.extend(storey_row(random, 1, size * UNIT_AREA, 5_000));
     let mut walls = Vec::new();
     for direction in 1..=2 {
@@ -125,6 +144,7 @@ pub fn on_edges(random: &mut Random) -> Vec<u32> {
     table.extend(walls);
     let marked = random.pick(&[0, 0, 8, ALL_PARTS]);
     table.extend([5, ALL_PARTS, marked, 0, 0, 0, 0, 0]);
+    table.extend(dates_row(random));
     table
 }
 
@@ -152,10 +172,10 @@ fn walls_on_edges(
 
 fn house_row(random: &mut Random, storeys: u32) -> [u32; 8] {
     let [weight, foundation] = [0, 1].map(|_| random.between(1, 3));
-    let [ground, age] = [0, 1].map(|_| random.between(1, 2));
+    let ground = random.between(1, 2);
     let zone = random.pick(&ZONES);
     let snow = random.pick(&SNOW);
-    [1, storeys, weight, zone, ground, foundation, age, snow]
+    [1, storeys, weight, zone, ground, foundation, 0, snow]
 }
 
 fn storey_row(random: &mut Random, storey: u32, area: u32, short_side: u32) -> [u32; 8] {

@@ -8,6 +8,12 @@ use girderbasil_host::{LINE, MOST_REPORT_BYTES, MOST_ROWS, ROW, model};
 
 use super::lent::{Lent, lent_length};
 
+/// How many numbers an answer may begin with: a refusal's, up to 11, or 0.
+pub const NUMBERS: usize = 12;
+
+/// The refusals that dates alone get, by number and column.
+pub const DATES_REFUSALS: [(u32, u32); 5] = [(10, 2), (10, 3), (10, 4), (11, 3), (11, 4)];
+
 /// `girderbasil_read`.
 pub struct Read {
     pub sheet: Lent<u8>,
@@ -58,6 +64,7 @@ impl Score {
             scores: [0; 6],
             count: 0,
             verdict: 0,
+            started_by_31_may_1981: 0,
         });
         raw::Scoring {
             number,
@@ -66,6 +73,7 @@ impl Score {
             scores: record.scores,
             count: record.count,
             verdict: record.verdict,
+            started_by_31_may_1981: record.started_by_31_may_1981,
         }
     }
 }

@@ -6,7 +6,7 @@ use girderbasil_host::library::raw;
 use girderbasil_host::random::{Random, damage, house};
 use girderbasil_host::{MOST_ROWS, ROW, model};
 
-use crate::common::calls::{Diagnose, Read, Score, WriteReport};
+use crate::common::calls::{DATES_REFUSALS, Diagnose, Read, Score, WriteReport};
 use crate::common::header;
 use crate::common::lent::Lent;
 use crate::{ARM64, X86_64, common, module, program, script};
@@ -25,12 +25,17 @@ struct Call {
 /// What sort of call it is.
 struct Met {
     function: &'static str,
-    /// The refusal's number, or 0.
+    /// The refusal's number, or 0, and its column.
     number: u32,
+    column: u32,
     /// How much of what was lent comes after what is written there; nothing where nothing is written.
     left: Option<usize>,
     /// The snow of the house; nothing where it is refused.
     snow: Option<usize>,
+    /// Its age on the survey day; nothing where it is refused or only read.
+    age: Option<u32>,
+    /// Whether work on it started by 31 May 1981, where that is answered.
+    started_by_then: Option<u32>,
 }
 
 /// What crosses in a buffer.
@@ -120,8 +125,11 @@ impl Call {
         let met = Met {
             function: "girderbasil_read",
             number: answer.number,
+            column: answer.column,
             left: written.map(|written| call.table.slice().len() - written.len()),
             snow: written.map(|written| house::snow_of(written)),
+            age: None,
+            started_by_then: None,
         };
         let bytes = answer_bytes(answer);
         Self::filling(met, &call.sheet, &call.table, &call.table_after, bytes)
@@ -132,16 +140,20 @@ impl Call {
         let met = Met {
             function: "girderbasil_score",
             number: answer.number,
+            column: answer.column,
             left: None,
             snow: call
                 .expected
                 .ok()
                 .map(|_| house::snow_of(call.table.slice())),
+            age: age_of(call.table.slice()),
+            started_by_then: call.expected.ok().map(|it| it.started_by_31_may_1981),
         };
         let mut bytes = vec![];
         put_all(&[answer.number, answer.row, answer.column], &mut bytes);
         put_all(&answer.scores, &mut bytes);
         put_all(&[answer.count, answer.verdict], &mut bytes);
+        put_all(&[answer.started_by_31_may_1981], &mut bytes);
         Self::reading(met, &call.table, bytes)
     }
 
@@ -151,8 +163,11 @@ impl Call {
         let met = Met {
             function: "girderbasil_write_report",
             number: answer.number,
+            column: answer.column,
             left: written.map(|written| call.report.slice().len() - written.len()),
             snow: written.map(|_| house::snow_of(call.table.slice())),
+            age: written.and_then(|_| age_of(call.table.slice())),
+            started_by_then: None,
         };
         let bytes = answer_bytes(answer);
         Self::filling(met, &call.table, &call.report, &call.report_after, bytes)
@@ -161,12 +176,15 @@ impl Call {
     fn diagnose(call: &Diagnose) -> Self {
         let answer = call.answer();
         let table = model::read(call.sheet.slice(), MOST_ROWS * ROW);
-        let scored = call.expected.and(table);
+        let scored = call.expected.and(table).ok();
         let met = Met {
             function: "girderbasil_diagnose",
             number: answer.number,
+            column: answer.column,
             left: None,
-            snow: scored.ok().map(|table| house::snow_of(&table)),
+            snow: scored.as_deref().map(house::snow_of),
+            age: scored.as_deref().and_then(age_of),
+            started_by_then: None,
         };
         let mut bytes = vec![];
         put_all(&[answer.number, answer.row, answer.column], &mut bytes);
@@ -174,6 +192,12 @@ impl Call {
         put_all(&answer.bytes, &mut bytes);
         Self::reading(met, &call.sheet, bytes)
     }
+}
+
+/// The age of a house on its survey day; nothing where it is refused.
+fn age_of(table: &[u32]) -> Option<u32> {
+    let survey = model::judge(table).ok();
+    survey.map(|survey| survey.dates.age())
 }
 
 fn answer_bytes(answer: raw::Answer) -> Vec<u8> {
@@ -187,24 +211,35 @@ fn answer_bytes(answer: raw::Answer) -> Vec<u8> {
 
 /// The functions that are called, each with the numbers that it may answer with and whether it fills something.
 const FUNCTIONS: [(&str, &[usize], bool); 4] = [
-    ("girderbasil_diagnose", &[0, 1, 2, 3, 4, 5, 6, 7, 8], false),
+    (
+        "girderbasil_diagnose",
+        &[0, 1, 2, 3, 4, 5, 6, 7, 8, 10, 11],
+        false,
+    ),
     ("girderbasil_read", &[0, 1, 2, 9], true),
-    ("girderbasil_score", &[0, 1, 3, 4, 5, 6, 7, 8], false),
+    (
+        "girderbasil_score",
+        &[0, 1, 3, 4, 5, 6, 7, 8, 10, 11],
+        false,
+    ),
     (
         "girderbasil_write_report",
-        &[0, 1, 3, 4, 5, 6, 7, 8, 9],
+        &[0, 1, 3, 4, 5, 6, 7, 8, 9, 10, 11],
         true,
     ),
 ];
+
+/// How many calls of a function are as wanted.
+fn count(calls: &[Met], function: &str, wanted: &dyn Fn(&Met) -> bool) -> usize {
+    let of_function = calls.iter().filter(|call| call.function == function);
+    of_function.filter(|call| wanted(call)).count()
+}
 
 /// Asserts that enough was met of everything: each function with each number and each snow, and with just enough lent and
 /// with more. With too little it is number 9.
 fn assert_all_met(calls: &[Met]) {
     for (function, numbers, fills) in FUNCTIONS {
-        let met = |wanted: &dyn Fn(&Met) -> bool| {
-            let of_function = calls.iter().filter(|call| call.function == function);
-            of_function.filter(|call| wanted(call)).count()
-        };
+        let met = |wanted: &dyn Fn(&Met) -> bool| count(calls, function, wanted);
         for &number in numbers {
             let met = met(&|call| call.number as usize == number);
             assert!(met >= 50, "{function}, {number}: {met}");
@@ -217,6 +252,28 @@ fn assert_all_met(calls: &[Met]) {
             assert!(met(&|call| call.left == Some(0)) >= 1_000, "{function}");
             assert!(met(&|call| call.left > Some(0)) >= 1_000, "{function}");
         }
+    }
+}
+
+/// Asserts that each function that scores met dates that are refused, at each of their columns, and houses of both ages;
+/// and that work on houses whose record was answered started by 31 May 1981, and later.
+fn assert_dates_met(calls: &[Met]) {
+    let scoring = FUNCTIONS.into_iter().filter(|it| it.1.contains(&11));
+    for (function, ..) in scoring {
+        let met = |wanted: &dyn Fn(&Met) -> bool| count(calls, function, wanted);
+        for place in DATES_REFUSALS {
+            let met = met(&|call| (call.number, call.column) == place);
+            assert!(met >= 10, "{function}, {place:?}: {met}");
+        }
+        for age in [1, 2] {
+            let met = met(&|call| call.age == Some(age));
+            assert!(met >= 1_000, "{function}, age {age}: {met}");
+        }
+    }
+    for answer in [0, 1] {
+        let started = |call: &Met| call.started_by_then == Some(answer);
+        let met = count(calls, "girderbasil_score", &started);
+        assert!(met >= 1_000, "start of work, {answer}: {met}");
     }
 }
 
@@ -235,6 +292,7 @@ fn answers_as_the_model_does(mut program: Command) {
     }
     assert_eq!(met.len(), CALLS);
     assert_all_met(&met);
+    assert_dates_met(&met);
 }
 
 /// Compares what a program gave with what the calls must give.
@@ -295,5 +353,5 @@ fn under_node_the_javascript_passes_its_own_tests() {
     assert!(output.status.success(), "{printed}");
     let mut counts = printed.lines();
     let passed = counts.find_map(|line| line.strip_prefix("# pass ")?.parse().ok());
-    assert!(passed >= Some(13), "{passed:?} of them");
+    assert!(passed >= Some(14), "{passed:?} of them");
 }
