@@ -64,7 +64,8 @@ fn archives_have_the_functions_of_the_header_and_no_more() {
     }
 }
 
-/// A frame of more than a page is taken page by page, and each is touched before the next is taken.
+/// A frame of more than a page is taken page by page, and each is touched before the next is taken. Where there are many
+/// the compiler writes a loop, whose comparison stands before the touch.
 #[test]
 fn code_for_arm64_touches_every_page_of_the_stack() {
     for target in TARGETS
@@ -82,15 +83,16 @@ fn code_for_arm64_touches_every_page_of_the_stack() {
             .map(|line| line.split_whitespace().collect())
             .collect();
         let mut met = 0;
-        for pair in lines.windows(2) {
+        for next in lines.windows(3) {
             // A number of pages, written as a multiple of 4,096.
-            if pair[0].starts_with(&["sub", "sp,", "sp,"]) && pair[0].contains(&"lsl") {
-                assert_eq!(pair[0][3], "#0x1,", "{target}: more than a page at a time");
-                assert_eq!(pair[1], ["str", "xzr,", "[sp]"], "{target}");
+            if next[0].starts_with(&["sub", "sp,", "sp,"]) && next[0].contains(&"lsl") {
+                assert_eq!(next[0][3], "#0x1,", "{target}: more than a page at a time");
+                let touch = &next[if next[1][0] == "cmp" { 2 } else { 1 }];
+                assert_eq!(touch, &["str", "xzr,", "[sp]"], "{target}");
                 met += 1;
             }
         }
-        assert!(met >= 4, "{target}: frames that are large");
+        assert!(met >= 3, "{target}: two frames are large");
     }
 }
 
