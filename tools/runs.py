@@ -11,7 +11,7 @@ def dates_row(days):
     return (8,) + days + (0, 0, 0, 0)
 
 
-# P1, with the age 0 and the dates row that document 02's request 3 gives it.
+# P1, with age 0 and a dates row, as document 02's request 3 asks for them.
 P1 = [
     (1, 1, 2, 100, 1, 1, 0, 0),
     (2, 1, 4000, 5000, 1, 0, 0, 0),

@@ -3,8 +3,8 @@ use mathlib.Core.List.{List, [], _∷_, _++_}
 use Prim.Native.Nat.{ℕ}
 use Rattle.answer.specs.Text.{bytes}
 
--- P1 of document 01, "Houses worked through": its sheet, line by line as the paper has it, with the dates row and the age 0 that document 02, request 3,
--- gives it,
+-- P1 of document 01, "Houses worked through": its sheet, line by line as the paper has it, but for age 0 and the dates row, which document 02, request 3,
+-- asks for,
 abbrev pub p1Sheet : List ℕ
 p1Sheet =
     bytes "       1       1       2     100       1       1       0       0\n"

@@ -1,6 +1,7 @@
 -- Document 01's houses worked through, from P1's sheet to its report, by computation. Assumes nothing.
 use mathlib.Core.Path.{_≡_, refl, ap}
-use mathlib.Core.List.{List, [], _∷_, map}
+use mathlib.Core.Bool.{false}
+use mathlib.Core.List.{List, [], _∷_}
 use Prim.Native.Nat.{ℕ, _+_, _≤_, max}
 use native.Mathlib.Nat.{le-refl}
 use lib.Dec.{lit≤}
@@ -34,11 +35,11 @@ use Rattle.diagnosis.specs.Rows.{endA, endB}
 use Rattle.diagnosis.specs.House.{inDirection, solidAtEnd, held, endHeld, narrow, requiredOf, required, endRequired, endBand, higherBand, storeyFloorType, layout, deterioration, strengthsWith, scoreBefore, scoreWith, fullScore, scores, leastOf, leastScore, houseVerdict, startedBy31May1981}
 use Rattle.diagnosis.specs.declared.held.HeldSums.{HeldSums}
 use Rattle.diagnosis.specs.Internal.{heldSums}
-use Rattle.diagnosis.specs.Answers.{recordOf}
+use Rattle.diagnosis.specs.Answers.{recordOf, scoring}
 use Rattle.diagnosis.specs.Comparison.{scoreAt}
 use Rattle.diagnosis.specs.Report.{resultRows, reportRows, reportBytes, reporting, refusalLine}
 use Rattle.diagnosis.specs.Program.{mostNumbers, tableOf, diagnosing, afterDiagnosing, mostReportBytes, output}
-use Rattle.diagnosis.specs.Worked.{p1Report, p10, underTenDay, tenDay, sound, heavy, zone100, softGround, overTen, moreMarks, allWorse, underSnow, snowySound, snowyWorse, weakJoints, figures, sameBands}
+use Rattle.diagnosis.specs.Worked.{p1Report, p10, underTenDay, tenDay, sound, heavy, zone100, softGround, overTen, moreMarks, allWorse, startedOn, underSnow, snowySound, snowyWorse, weakJoints, figures, sameBands}
 
 -- P1's sheet can be read, and is P1's table.
 p1-read : reading p1Sheet mostNumbers ≡ counted 12
@@ -311,7 +312,25 @@ worsened-records =
     let scored : List (List ℕ) → List ℕ = λ figures. getD figures 0 [] in
     (rw p1-scores, rw (ap scored sound-figures), rw (ap scored all-worse-figures), refl)
 
--- P1 with its start of work on the grant's last day, and a day later.
-pub grants-last-day : map startedBy31May1981 (set p1 89 19810531 ∷ set p1 89 19810601 ∷ []) ≡ 1 ∷ 0 ∷ []
-unfolding worsened-records
-grants-last-day = refl
+-- What scoring answers of a house on which work started on the grant's last day, and a day later; and of P1 with an age, which is refused.
+started-judged : Judged (startedOn 19810531) × Judged (startedOn 19810601) × (judging (set p1 6 2) ≡ refusal 4 1 7)
+unfolding p10-judged
+started-judged = (refl, refl, refl)
+
+pub grants-last-day :
+    (scoring (startedOn 19810531) .result .started_by_31_may_1981 ≡ 1)
+    × (scoring (startedOn 19810601) .result .started_by_31_may_1981 ≡ 0)
+unfolding scoring recordOf startedBy31May1981 wallRows first
+grants-last-day = (rw (started-judged .0), rw (started-judged .1))
+
+pub refused-record :
+    scoring (set p1 6 2)
+    ≡ record {
+      scored = false;
+      number = 4;
+      row = 1;
+      column = 7;
+      result = record { scores = 0 ∷ 0 ∷ 0 ∷ 0 ∷ 0 ∷ 0 ∷ []; count = 0; verdict = 0; started_by_31_may_1981 = 0 };
+    }
+unfolding scoring
+refused-record = rw (started-judged .2)

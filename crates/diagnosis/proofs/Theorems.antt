@@ -2,7 +2,7 @@
 -- defined in specs/. Assumes nothing.
 use mathlib.Core.Path.{_≡_}
 use mathlib.Core.Bool.{true, false}
-use mathlib.Core.List.{List, [], _∷_, map}
+use mathlib.Core.List.{List, [], _∷_}
 use Prim.Native.Nat.{ℕ, _*_, _<_, _≤_}
 use native.Mathlib.Omega.{arith}
 use lib.ListN.{length, getD, set, take, replicate}
@@ -19,12 +19,12 @@ use Rattle.survey.specs.Judgement.{judging, within}
 use Rattle.method.specs.Worked.{worked, expected}
 use Rattle.diagnosis.specs.declared.scores.Scoring.{Scoring}
 use Rattle.diagnosis.specs.Rows.{weight, zone, ground, marked, surveyDay}
-use Rattle.diagnosis.specs.House.{InHouse, higherBand, scoreBefore, fullScore, leastScore, houseVerdict, startedBy31May1981}
+use Rattle.diagnosis.specs.House.{InHouse, higherBand, scoreBefore, fullScore, leastScore, houseVerdict}
 use Rattle.diagnosis.specs.Answers.{toldScoring, recordOf, scoring}
 use Rattle.diagnosis.specs.Report.{reportRows, reportLines, reportBytes, reporting}
 use Rattle.diagnosis.specs.Program.{tableOf, diagnosing, afterDiagnosing, mostReportBytes, output}
 use Rattle.diagnosis.specs.Comparison.{mayDiffer, NoLower, SameOrWorse, BandKept, scoreAt, NoBetter, Applies}
-use Rattle.diagnosis.specs.Worked.{p1Report, p10, sound, heavy, zone100, softGround, overTen, moreMarks, allWorse, underSnow, snowySound, snowyWorse, weakJoints, figures, sameBands}
+use Rattle.diagnosis.specs.Worked.{p1Report, p10, sound, heavy, zone100, softGround, overTen, moreMarks, allWorse, startedOn, underSnow, snowySound, snowyWorse, weakJoints, figures, sameBands}
 use Rattle.diagnosis.proofs.ScoreLists as score-lists
 use Rattle.diagnosis.proofs.ReportNumbers as report-numbers
 use Rattle.diagnosis.proofs.Reporting as program
@@ -128,9 +128,23 @@ pub worsened-records :
     × (_≡_ {A = List ℕ} (scoreAt 1 1 ∷ scoreAt 1 2 ∷ scoreAt 2 1 ∷ scoreAt 2 2 ∷ scoreAt 3 1 ∷ scoreAt 3 2 ∷ []) (0 ∷ 1 ∷ 2 ∷ 3 ∷ 4 ∷ 5 ∷ []))
 worsened-records = examples.worsened-records
 
--- The grant's last day counts, and the day after it does not: P1 with its start of work on these.
-pub grants-last-day : map startedBy31May1981 (set p1 89 19810531 ∷ set p1 89 19810601 ∷ []) ≡ 1 ∷ 0 ∷ []
+-- The record of a house on which work started on the grant's last day says so, and a day later it does not.
+pub grants-last-day :
+    (scoring (startedOn 19810531) .result .started_by_31_may_1981 ≡ 1)
+    × (scoring (startedOn 19810601) .result .started_by_31_may_1981 ≡ 0)
 grants-last-day = examples.grants-last-day
+
+-- P1 with age 2 is refused, and its record is all 0, though work on it started by that day.
+pub refused-record :
+    scoring (set p1 6 2)
+    ≡ record {
+      scored = false;
+      number = 4;
+      row = 1;
+      column = 7;
+      result = record { scores = 0 ∷ 0 ∷ 0 ∷ 0 ∷ 0 ∷ 0 ∷ []; count = 0; verdict = 0; started_by_31_may_1981 = 0 };
+    }
+refused-record = examples.refused-record
 
 pub worsened-verdict : houseVerdict sound ≤ houseVerdict allWorse
 worsened-verdict = comparison sound allWorse (worsened .5 .worse) .verdict (worsened .5 .kept)

@@ -27,12 +27,12 @@ use Rattle.diagnosis.specs.Report.{resultRow, verdictRow}
 -- Premises
 
 -- The table is accepted. From that follows what the code needs: it has one to three storeys, it is at least as long as the rows that are due
--- without walls (the house's, three for each storey, the parts'), and its zone is at most 100.
+-- without walls (the house's, three for each storey, the parts', the dates'), and its zone is at most 100.
 pub record Stands (table : List ℕ) : Type 0 where
   pub accepted : judging table .number ≡ 0
   pub some : 1 ≤ storeys table
   pub few : storeys table ≤ 3
-  pub long : 8 * (3 * storeys table + 2) ≤ length table
+  pub long : 8 * (3 * storeys table + 3) ≤ length table
   pub zone-most : zone table ≤ 100
 
 -- The table is accepted, and this is what its house row says.

@@ -1,5 +1,6 @@
--- What the rows of a table say, each by value, as `method` takes it. Document 01, "The sheet and the table"; document 02, requests 1 and 3. Storeys and directions count from 1,
--- as in document 01, rows and columns from 0, as in `survey`. The struct of a row is filled here and nowhere else.
+-- What the rows of a table say, each by value: those that `method` takes, and the dates. Document 01, "The sheet and the table"; document 02, requests
+-- 1 and 3. Storeys and directions count from 1, as in document 01, rows and columns from 0, as in `survey`. The struct of a row is filled here and
+-- nowhere else.
 use mathlib.Core.List.{List}
 use Prim.Native.Nat.{ℕ, _+_}
 use Rattle.calendar.specs.Days.{ageOn}

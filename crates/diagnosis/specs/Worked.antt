@@ -30,11 +30,14 @@ p10 zone =
     ∷ 8 ∷ 19800401 ∷ 19801001 ∷ 20120401 ∷ 0 ∷ 0 ∷ 0 ∷ 0
     ∷ []
 
--- A house of two storeys: light, in zone 90, on ordinary ground, surveyed on the last day on which it is under ten years, the corridor floor alone
--- marked.
+-- The last day on which the house of two storeys is under ten years, and the day on which it is ten.
 abbrev pub underTenDay : ℕ
 underTenDay = 20080331
 
+abbrev pub tenDay : ℕ
+tenDay = 20080401
+
+-- A house of two storeys: light, in zone 90, on ordinary ground, under ten years, the corridor floor alone marked.
 abbrev pub sound : List ℕ
 sound = twoStoreys 1 90 1 underTenDay 2048
 
@@ -49,9 +52,6 @@ abbrev pub softGround : List ℕ
 softGround = twoStoreys 1 90 2 underTenDay 2048
 
 -- (surveyed a day later)
-abbrev pub tenDay : ℕ
-tenDay = 20080401
-
 abbrev pub overTen : List ℕ
 overTen = twoStoreys 1 90 1 tenDay 2048
 
@@ -62,6 +62,10 @@ moreMarks = twoStoreys 1 90 1 underTenDay 2056
 -- and in all of them.
 abbrev pub allWorse : List ℕ
 allWorse = twoStoreys 2 100 2 tenDay 2056
+
+-- The sound house, by the day on which work started.
+abbrev pub startedOn : ℕ → List ℕ
+startedOn day = set sound 113 day
 
 -- A house under snow, by the number that stands for its depth in column 8 of the house row.
 abbrev pub underSnow : ℕ → List ℕ → List ℕ

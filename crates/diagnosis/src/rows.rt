@@ -1,5 +1,5 @@
-// What the rows of a table say, each by value, as `method` takes it; the dates row's too. A row's struct
-// is filled here and nowhere else.
+// What the rows of a table say, each by value: those that `method` takes, and the dates. A row's struct is
+// filled here and nowhere else.
 use method::House;
 use method::HousePart;
 use method::Items;

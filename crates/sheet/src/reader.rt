@@ -25,7 +25,7 @@ ghost use Rattle.sheet.specs.Sheet.{misprinted, numbersOf, reading, afte
 // How many places of a line can be misprinted: its fields, then its last byte.
 const PLACES: usize = ROW + 1;
 
-// The most lines of a short sheet. A house of two storeys with 56 walls has as many.
+// The most lines of a short sheet. A house of two storeys with 55 walls has as many.
 const SHORT_SHEET: usize = 64;
 
 // Reads one line into the numbers of a row. Answers its leftmost misprinted place, from 0, or 9 where

@@ -20,11 +20,11 @@ use Rattle.survey.proofs.Acceptance as acceptance
 use Rattle.survey.proofs.StoreyWalls as storey-walls
 use Rattle.survey.proofs.Examples as examples
 
--- Which refusal a table gets. A table that is refused on no ground is made as document 01 says,
+-- Which refusal a table gets. A table that is refused on no ground is made as the papers say,
 pub accepted : (table : List ℕ) → judging table .number ≡ 0 → Accepted table
 accepted table h = acceptance.accepted table h
 
--- and a table that is made so is accepted, with all its rows counted: it is refused only where document 01 names a refusal for it.
+-- and a table that is made so is accepted, with all its rows counted: it is refused only where the papers name a refusal for it.
 pub made-accepted : (table : List ℕ) → Accepted table → judging table ≡ counted (rowsDue table)
 made-accepted table made = acceptance.made-accepted table made
 

@@ -40,7 +40,7 @@ pub record Accepted (table : List ℕ) : Type 0 where
   -- Every mark is on a part that is present, and some part is.
   pub marks-present : within (cell table (partsRow table) 2) (cell table (partsRow table) 1) ≡ true
   pub some-present : 0 < cell table (partsRow table) 1
-  -- Start of work, completion and survey day are days, and none is before the one to its left.
+  -- Start of work, completion and survey day are days, and none is before the one to its left (document 02, request 3).
   pub days :
       (isDay (cell table (datesRow table) 1) ≡ true) × (isDay (cell table (datesRow table) 2) ≡ true) × (isDay (cell table (datesRow table) 3) ≡ true)
   pub in-order : (cell table (datesRow table) 1 ≤ cell table (datesRow table) 2) × (cell table (datesRow table) 2 ≤ cell table (datesRow table) 3)
