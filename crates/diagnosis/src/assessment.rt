@@ -20,6 +20,7 @@ use method::layout_factor;
 use method::narrow_factor;
 use method::required_strength;
 use method::score;
+use survey::parts_row;
 ghost use mathlib.Core.Path.{_≡_};
 ghost use Prim.Native.Nat.{min};
 ghost use Rattle.diagnosis.specs.House.{endBand, deterioration, assessmentWith};
@@ -46,13 +47,16 @@ pub struct HouseAssessment {
     pub factor: Fraction,
 }
 
-// The house's deterioration factor, by its age on the survey day.
+// The deterioration factor of an accepted table's house, by its age on the survey day. The dates row is the
+// one after the parts row, so that the walls are gone through once for both.
 fn deterioration(table: &[u32]) -> Fraction
+    requires { ⌜ Stands (now table) ⌝ }
     ensures { λ r. ⌜ r ≡ deterioration (now (table .entry)) ⌝ }
 {
-    let dates = dates_of(table);
+    let parts = parts_row(table);
+    let dates = dates_of(table, parts + 1);
     let age = age_on(dates.completion, dates.survey);
-    deterioration_factor(items_of(table), age)
+    deterioration_factor(items_of(table, parts), age)
 }
 
 // The band of an end, 0 for end a and 1 for end b, by its storey's narrow factor and what its solid walls

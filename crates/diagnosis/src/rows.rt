@@ -27,10 +27,9 @@ use survey::columns::VOID;
 use survey::columns::WALL_TYPE;
 use survey::columns::WEIGHT;
 use survey::columns::ZONE;
-use survey::dates_row;
-use survey::parts_row;
 ghost use mathlib.Core.Path.{_≡_};
 ghost use Prim.Native.Nat.{_≤_};
+ghost use Rattle.survey.specs.Table.{partsRow, datesRow};
 ghost use Rattle.diagnosis.specs.Rows.{storeyOf, storeyPart, endPart, wallOf, itemsOf, datesOf};
 ghost use Rattle.diagnosis.specs.Internal.{Stands, HouseOf, EndOf};
 
@@ -113,22 +112,22 @@ pub(crate) fn wall_of(wall: &[u32]) -> Wall
     }
 }
 
-// The parts row.
-pub(crate) fn items_of(table: &[u32]) -> Items
+// The parts row. `parts` is where it stands, from 0.
+pub(crate) fn items_of(table: &[u32], parts: usize) -> Items
+    requires { ⌜ parts ≡ partsRow (now table) ⌝ }
     ensures { λ r. ⌜ r ≡ itemsOf (now (table .entry)) ⌝ }
 {
-    let parts = parts_row(table);
     Items {
         present: cell(table, parts, PRESENT),
         marked: cell(table, parts, MARKED),
     }
 }
 
-// The dates row.
-pub(crate) fn dates_of(table: &[u32]) -> Dates
+// The dates row. `dates` is where it stands, from 0.
+pub(crate) fn dates_of(table: &[u32], dates: usize) -> Dates
+    requires { ⌜ dates ≡ datesRow (now table) ⌝ }
     ensures { λ r. ⌜ r ≡ datesOf (now (table .entry)) ⌝ }
 {
-    let dates = dates_row(table);
     Dates {
         start: cell(table, dates, START_OF_WORK),
         completion: cell(table, dates, COMPLETION),

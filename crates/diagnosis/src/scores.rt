@@ -4,6 +4,7 @@ use crate::assessment::assess_house;
 use crate::rows::dates_of;
 use answer::Answer;
 use method::verdict;
+use survey::dates_row;
 use survey::judge;
 ghost use mathlib.Core.Path.{_≡_};
 ghost use Rattle.diagnosis.specs.Answers.{toldScoring, scoring};
@@ -45,7 +46,7 @@ const GRANTS_LAST_DAY: u32 = 19_810_531;
 fn started_by_31_may_1981(table: &[u32]) -> u32
     ensures { λ r. ⌜ r ≡ startedBy31May1981 (now (table .entry)) ⌝ }
 {
-    let dates = dates_of(table);
+    let dates = dates_of(table, dates_row(table));
     if GRANTS_LAST_DAY < dates.start {
         return 0;
     }

@@ -3,9 +3,6 @@ use borrow.Author.Needs.{needs}
 use Rattle.diagnosis.proofs.rows.dates_of.Statement.{statement}
 use Rattle.diagnosis.proofs.rows.dates_of.Tie as tie
 
-dates-row-requires : tie.Need-dates-row-requires
-dates-row-requires c κs = search needs
-
 cell-requires : tie.Need-cell-requires
 cell-requires c κs = search needs
 
@@ -16,13 +13,12 @@ cell-requires-3 : tie.Need-cell-requires-3
 cell-requires-3 c κs = search needs
 
 returns : tie.Need-returns
-returns c = rw (c .before .before .cell .ensures, c .before .cell2 .ensures, c .cell3 .ensures, c .before .before .before .dates-row .ensures)
+returns c = rw (c .before .before .cell .ensures, c .before .cell2 .ensures, c .cell3 .ensures, c .before .before .before .before .pre)
 
 pub dates-of-spec : {M : Type 1} → statement M
 dates-of-spec =
     tie.close
     (tie.spec
-    dates-row-requires
     cell-requires
     cell-requires-2
     cell-requires-3

@@ -21,11 +21,14 @@ module _ (table : List ℕ) (day : ℕ) (e : day ≡ startOfWork table) where
   unfolding startedBy31May1981
   in-time h = rw (← e, le-leb day grantsLastDay h)
 
+dates-row-requires : tie.Need-dates-row-requires
+dates-row-requires c κs = search needs
+
 dates-of-requires : tie.Need-dates-of-requires
 dates-of-requires c κs = search needs
 
 -- The day on which work started.
-start : (c : tie.After-dates-of) → c .dates-of .result .start ≡ startOfWork (now (c .before .before .args .table))
+start : (c : tie.After-dates-of) → c .dates-of .result .start ≡ startOfWork (now (c .before .before .before .args .table))
 start c = ap (λ (d : Dates). d .start) (c .dates-of .ensures)
 
 returns : tie.Need-returns
@@ -35,4 +38,4 @@ returns-2 : tie.Need-returns-2
 returns-2 c = in-time _ (c .before .before .dates-of .result .start) (start (c .before .before)) (omega arith)
 
 pub started-by-31-may-1981-spec : {M : Type 1} → statement M
-started-by-31-may-1981-spec = tie.close (tie.spec dates-of-requires returns returns-2)
+started-by-31-may-1981-spec = tie.close (tie.spec dates-row-requires dates-of-requires returns returns-2)
