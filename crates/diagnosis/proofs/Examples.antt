@@ -1,6 +1,5 @@
 -- Document 01's houses worked through, from P1's sheet to its report, by computation. Assumes nothing.
 use mathlib.Core.Path.{_≡_, refl, ap}
-use mathlib.Core.Bool.{false}
 use mathlib.Core.List.{List, [], _∷_}
 use Prim.Native.Nat.{ℕ, _+_, _≤_, max}
 use native.Mathlib.Nat.{le-refl}
@@ -34,8 +33,9 @@ use Rattle.method.proofs.Examples.{worked-out}
 use Rattle.diagnosis.specs.Rows.{endA, endB}
 use Rattle.diagnosis.specs.House.{inDirection, solidAtEnd, held, endHeld, narrow, requiredOf, required, endRequired, endBand, higherBand, storeyFloorType, layout, deterioration, strengthsWith, scoreBefore, scoreWith, fullScore, scores, leastOf, leastScore, houseVerdict, startedBy31May1981}
 use Rattle.diagnosis.specs.declared.held.HeldSums.{HeldSums}
+use Rattle.diagnosis.specs.declared.scores.Outcome.the-variants.{Refused}
 use Rattle.diagnosis.specs.Internal.{heldSums}
-use Rattle.diagnosis.specs.Answers.{recordOf, scoring}
+use Rattle.diagnosis.specs.Answers.{toldOutcome, recordOf, scoring}
 use Rattle.diagnosis.specs.Comparison.{scoreAt}
 use Rattle.diagnosis.specs.Report.{resultRows, reportRows, reportBytes, reporting, refusalLine}
 use Rattle.diagnosis.specs.Program.{mostNumbers, tableOf, diagnosing, afterDiagnosing, mostReportBytes, output}
@@ -325,12 +325,6 @@ grants-last-day = (rw (started-judged .0), rw (started-judged .1))
 
 pub refused-record :
     scoring (set p1 6 2)
-    ≡ record {
-      scored = false;
-      number = 4;
-      row = 1;
-      column = 7;
-      result = record { scores = 0 ∷ 0 ∷ 0 ∷ 0 ∷ 0 ∷ 0 ∷ []; count = 0; verdict = 0; started_by_31_may_1981 = 0 };
-    }
+    ≡ toldOutcome (Refused 4 1 7) (record { scores = 0 ∷ 0 ∷ 0 ∷ 0 ∷ 0 ∷ 0 ∷ []; count = 0; verdict = 0; started_by_31_may_1981 = 0 })
 unfolding scoring
 refused-record = rw (started-judged .2)

@@ -17,10 +17,11 @@ use Rattle.sheet.specs.Sheet.{writing, afterWriting}
 use Rattle.survey.specs.Table.{cell, storeys}
 use Rattle.survey.specs.Judgement.{judging, within}
 use Rattle.method.specs.Worked.{worked, expected}
+use Rattle.diagnosis.specs.declared.scores.Outcome.the-variants.{Refused}
 use Rattle.diagnosis.specs.declared.scores.Scoring.{Scoring}
 use Rattle.diagnosis.specs.Rows.{weight, zone, ground, marked, surveyDay}
 use Rattle.diagnosis.specs.House.{InHouse, higherBand, scoreBefore, fullScore, leastScore, houseVerdict}
-use Rattle.diagnosis.specs.Answers.{toldScoring, recordOf, scoring}
+use Rattle.diagnosis.specs.Answers.{toldOutcome, toldScoring, recordOf, scoring}
 use Rattle.diagnosis.specs.Report.{reportRows, reportLines, reportBytes, reporting}
 use Rattle.diagnosis.specs.Program.{tableOf, diagnosing, afterDiagnosing, mostReportBytes, output}
 use Rattle.diagnosis.specs.Comparison.{mayDiffer, NoLower, SameOrWorse, BandKept, scoreAt, NoBetter, Applies}
@@ -137,13 +138,7 @@ grants-last-day = examples.grants-last-day
 -- P1 with age 2 is refused, and its record is all 0, though work on it started by that day.
 pub refused-record :
     scoring (set p1 6 2)
-    ≡ record {
-      scored = false;
-      number = 4;
-      row = 1;
-      column = 7;
-      result = record { scores = 0 ∷ 0 ∷ 0 ∷ 0 ∷ 0 ∷ 0 ∷ []; count = 0; verdict = 0; started_by_31_may_1981 = 0 };
-    }
+    ≡ toldOutcome (Refused 4 1 7) (record { scores = 0 ∷ 0 ∷ 0 ∷ 0 ∷ 0 ∷ 0 ∷ []; count = 0; verdict = 0; started_by_31_may_1981 = 0 })
 refused-record = examples.refused-record
 
 pub worsened-verdict : houseVerdict sound ≤ houseVerdict allWorse
