@@ -78,8 +78,9 @@ module _ (A B : List ℕ) (w : SameOrWorse A B) where
   completion-same : completion A ≡ completion B
   unfolding mayDiffer
   completion-same =
-      w .same (datesRow A) 2 (omega arith) (rw (ne-eqb (datesRow A) 0 (λ e. omega arith), ne-eqb (datesRow A) (partsRow A) (λ e. omega arith), and-false (eqb (datesRow A) (datesRow A))))
-      ∙ ap (λ (row : ℕ). cell B (row + 1) 2) parts-row-same
+      let other : mayDiffer A (datesRow A) 2 ≡ false =
+      rw (ne-eqb (datesRow A) 0 (λ e. omega arith), ne-eqb (datesRow A) (partsRow A) (λ e. omega arith), and-false (eqb (datesRow A) (datesRow A))) in
+      w .same (datesRow A) 2 (omega arith) other ∙ ap (λ (row : ℕ). cell B (row + 1) 2) parts-row-same
 
   -- The house is no younger on a later survey day.
   age-rises : age A ≤ age B

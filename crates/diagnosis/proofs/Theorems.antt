@@ -144,6 +144,23 @@ refused-record = examples.refused-record
 pub worsened-verdict : houseVerdict sound ≤ houseVerdict allWorse
 worsened-verdict = comparison sound allWorse (worsened .5 .worse) .verdict (worsened .5 .kept)
 
+-- By the theorem in full, the house surveyed a day later scores no more on the ground in X, before the layout factor and with it, and its verdict is
+-- no better.
+pub later-day :
+    (scoreBefore overTen 1 1 ≤ scoreBefore sound 1 1) × (fullScore overTen 1 1 ≤ fullScore sound 1 1) × (houseVerdict sound ≤ houseVerdict overTen)
+later-day =
+    let worse = worsened .3 .worse in
+    let no-lower = worse .no-lower in
+    let no-better =
+    comparison-in-full sound overTen (worse .A-accepted) (worse .B-accepted) (worse .rows) (worse .same)
+    (no-lower .heavier) (no-lower .higher) (no-lower .softer) (no-lower .later) (worse .marks) in
+    let kept : (storey direction : ℕ) → 1 ≤ storey → storey ≤ storeys sound → 1 ≤ direction → direction ≤ 2
+    → higherBand overTen storey direction ≡ higherBand sound storey direction =
+    λ storey direction some last one two.
+    worsened .3 .kept storey direction (record { some-storey = some; last-storey = last; some-direction = one; last-direction = two }) in
+    let here = no-better .0 1 1 (omega arith) (omega arith) (omega arith) (omega arith) in
+    (here .0, here .1 (kept 1 1 (omega arith) (omega arith) (omega arith) (omega arith)), no-better .1 kept .0)
+
 -- A pair under 1 m of snow to which all of it applies, worse in all five. Its scores fall, too, and the better ends keep their bands.
 pub snowy-worsened : Applies snowySound snowyWorse
 snowy-worsened = pairs.snowy-worsened

@@ -25,6 +25,7 @@ use Rattle.survey.specs.Judgement.{fault, none, faulty, test, _then_, co
 use Rattle.survey.specs.Acceptance.{Inside, Accepted}
 use Rattle.survey.specs.Internal.{JudgedTo}
 use Rattle.survey.proofs.Faults.{not-faulty}
+use Rattle.survey.proofs.Positions.{by-place}
 use Rattle.survey.proofs.RowFaults.{ends-right, wall-right, parts-right, days-right, order-right, dates-order, row-house, row-storey, row-ends, row-wall, row-parts, row-dates, row-after}
 use Rattle.survey.proofs.Judging.{judging-accepted}
 use Rattle.survey.proofs.RefusalNumbers.{judging-by-number}
@@ -77,7 +78,7 @@ module _ (table : List ℕ) (h : (judging table) .number ≡ 0) where
     where
       go : Dec (rowsDue table < rows) → rows ≡ rowsDue table
       go (yes l) =
-          let after = row-after table (rowsDue table) (omega arith) (omega arith) (omega arith) (omega arith) (omega arith) in
+          let after = row-after table (rowsDue table) (omega arith) in
           absurd (omega (arith, rw (← after) at (right .clean (rowsDue table) l)))
       go (no l) = omega (arith, right .reaches)
 
@@ -91,12 +92,10 @@ module _ (table : List ℕ) (h : (judging table) .number ≡ 0) where
   wall-clean row past before = rw (row-wall table row (omega arith) (omega arith) past before) (right .clean row (omega (arith, right .reaches)))
 
   parts-clean : Clean (partsFault table (partsRow table))
-  parts-clean = rw (row-parts table (partsRow table) (omega arith) (omega arith) (omega arith) refl) (right .clean (partsRow table) (omega (arith, right .reaches)))
+  parts-clean = rw (row-parts table (partsRow table) refl) (right .clean (partsRow table) (omega (arith, right .reaches)))
 
   dates-clean : Clean (datesFault table (datesRow table))
-  dates-clean =
-      rw (row-dates table (datesRow table) (omega arith) (omega arith) (omega arith) (omega arith) refl)
-      (right .clean (datesRow table) (omega (arith, right .reaches)))
+  dates-clean = rw (row-dates table (datesRow table) refl) (right .clean (datesRow table) (omega (arith, right .reaches)))
 
   -- A wall row's three tests.
   wall-tests : (row : ℕ) → firstWall table ≤ row → row < partsRow table
@@ -247,32 +246,17 @@ module _ (table : List ℕ) (a : Accepted table) where
       let row = partsRow table in
       parts-right table row (inside-columns 1 partsColumns table row (omega arith) (a .parts-inside)) (le-refl 0)
       (eqb-true (bitAnd (cell table row 2) (cell table row 1)) (cell table row 2) (a .marks-present)) (λ e. omega (arith, a .some-present))
-      ∙ row-parts table row (omega arith) (omega (arith, storeys-known)) (omega arith) refl
+      ∙ row-parts table row refl
 
   dates-clear : none ≡ rowFault table (datesRow table)
   dates-clear =
       let row = datesRow table in
       dates-order table row (inside-columns 1 datesColumns table row (omega arith) (a .dates-inside)) (le-refl 0)
       (days-right table row (rw (a .days .0)) (rw (a .days .1)) (rw (a .days .2))) (le-refl 0) (order-right table row (a .in-order .0) (a .in-order .1))
-      ∙ row-dates table row (omega arith) (omega (arith, storeys-known)) (omega arith) (omega arith) refl
+      ∙ row-dates table row refl
 
   all-clear : (row : ℕ) → row < rowsDue table → none ≡ rowFault table row
-  all-clear row h = go (decLt 0 row) (decLt (storeys table) row) (decLt row (firstWall table)) (decLt row (partsRow table)) (decLt (partsRow table) row)
-    where
-      go : Dec (0 < row) → Dec (storeys table < row) → Dec (row < firstWall table) → Dec (row < partsRow table) → Dec (partsRow table < row)
-          → none ≡ rowFault table row
-      go (no p) _ _ _ _ =
-          let first : row ≡ 0 = omega arith in
-          rw first house-clear
-      go (yes p) (no q) _ _ _ = storey-clear row p (omega arith)
-      go (yes p) (yes q) (yes r) _ _ = ends-clear row q r
-      go (yes p) (yes q) (no r) (yes s) _ = wall-clear row (omega arith) s
-      go (yes p) (yes q) (no r) (no s) (no t) =
-          let parts : row ≡ partsRow table = omega arith in
-          rw parts parts-clear
-      go (yes p) (yes q) (no r) (no s) (yes t) =
-          let last : row ≡ datesRow table = omega arith in
-          rw last dates-clear
+  all-clear = by-place table (λ row. none ≡ rowFault table row) house-clear storey-clear ends-clear wall-clear parts-clear dates-clear
 
   pub made-accepted : judging table ≡ counted (rowsDue table)
   made-accepted =

@@ -1,4 +1,4 @@
--- Where rows stand: the row after the walls, and what lies beyond a table. Assumes nothing.
+-- Where rows stand: which rows a whole table has, the row after the walls, and what lies beyond a table. Assumes nothing.
 use mathlib.Core.Path.{_≡_, sym, subst, _∙_}
 use mathlib.Core.Bool.{Bool, true, false, not}
 use mathlib.Core.List.{List}
@@ -9,7 +9,36 @@ use lib.Dec.{T}
 use lib.ListN.{length, List·getD-eq-default}
 use borrow.Author.Tests.{eqb-true, not-true, not-false}
 use Rattle.answer.proofs.Places.{before-first, at-first}
-use Rattle.survey.specs.Table.{cell, storeys, endsRow, endsStorey, endsDirection, isWall, firstWall, wallRows, partsRow}
+use Rattle.survey.specs.Table.{cell, storeys, endsRow, endsStorey, endsDirection, isWall, firstWall, wallRows, partsRow, datesRow, rowsDue}
+
+-- What holds of every row by the place where it stands holds of all rows of a whole table.
+module _
+    (table : List ℕ) (P : ℕ → Type 0) (house : P 0) (storey : (row : ℕ) → 0 < row → row ≤ storeys table → P row)
+    (ends : (row : ℕ) → storeys table < row → row < firstWall table → P row)
+    (wall : (row : ℕ) → firstWall table ≤ row → row < partsRow table → P row) (parts : P (partsRow table)) (dates : P (datesRow table))
+  where
+    past-walls : (row : ℕ) → partsRow table ≤ row → row < rowsDue table → P row
+    past-walls row past h = go (decLt (partsRow table) row)
+      where
+        go : Dec (partsRow table < row) → P row
+        go (yes l) =
+            let last : row ≡ datesRow table = omega arith in
+            rw last dates
+        go (no l) =
+            let here : row ≡ partsRow table = omega arith in
+            rw here parts
+
+    pub by-place : (row : ℕ) → row < rowsDue table → P row
+    by-place row h = go (decLt 0 row) (decLt (storeys table) row) (decLt row (firstWall table)) (decLt row (partsRow table))
+      where
+        go : Dec (0 < row) → Dec (storeys table < row) → Dec (row < firstWall table) → Dec (row < partsRow table) → P row
+        go (no p) _ _ _ =
+            let first : row ≡ 0 = omega arith in
+            rw first house
+        go (yes p) (no q) _ _ = storey row p (omega arith)
+        go (yes p) (yes q) (yes r) _ = ends row q r
+        go (yes p) (yes q) (no r) (yes s) = wall row (omega arith) s
+        go (yes p) (yes q) (no r) (no s) = past-walls row (omega arith) h
 
 -- Beyond a table every number is 0, and no row is a wall.
 pub beyond : (table : List ℕ) (row column : ℕ) → length table ≤ 8 * row + column → cell table row column ≡ 0

@@ -1,6 +1,6 @@
 -- What is wrong with a row of each kind, case by case in the order of its tests. Assumes nothing.
 use mathlib.Core.Path.{_≡_, refl}
-use mathlib.Core.Bool.{true, false}
+use mathlib.Core.Bool.{true, false, cond}
 use mathlib.Core.List.{List}
 use Prim.Native.Nat.{ℕ, _+_, _<_, _≤_}
 use native.Mathlib.Omega.{arith}
@@ -153,38 +153,19 @@ module _ (table : List ℕ) (row : ℕ) (later : 0 < row) where
       unfolding rowFault
       row-wall h = rw (gt-eqb row later, lt-leb row (storeys table) above, le-ltb row (firstWall table) past, lt-ltb row (partsRow table) h)
 
-      pub row-parts : row ≡ partsRow table → partsFault table row ≡ rowFault table row
-      unfolding rowFault
-      row-parts h =
-          rw (
-            gt-eqb row later,
-            lt-leb row (storeys table) above,
-            le-ltb row (firstWall table) past,
-            le-ltb row (partsRow table) (omega arith),
-            eq-eqb row (partsRow table) h,
-          )
+module _ (table : List ℕ) (row : ℕ) where
+  -- Past the walls.
+  row-past : partsRow table ≤ row
+      → cond (eqb row (partsRow table)) (partsFault table row) (cond (eqb row (datesRow table)) (datesFault table row) (fault row-out-of-order 1)) ≡ rowFault table row
+  unfolding rowFault
+  row-past h =
+      rw (gt-eqb row (omega arith), lt-leb row (storeys table) (omega arith), le-ltb row (firstWall table) (omega arith), le-ltb row (partsRow table) h)
 
-      module _ (past-parts : partsRow table < row) where
-        pub row-dates : row ≡ datesRow table → datesFault table row ≡ rowFault table row
-        unfolding rowFault
-        row-dates h =
-            rw (
-              gt-eqb row later,
-              lt-leb row (storeys table) above,
-              le-ltb row (firstWall table) past,
-              le-ltb row (partsRow table) (omega arith),
-              ne-eqb row (partsRow table) (λ e. omega arith),
-              eq-eqb row (datesRow table) h,
-            )
+  pub row-parts : row ≡ partsRow table → partsFault table row ≡ rowFault table row
+  row-parts h = rw (← row-past (omega arith), eq-eqb row (partsRow table) h)
 
-        pub row-after : datesRow table < row → fault row-out-of-order 1 ≡ rowFault table row
-        unfolding rowFault
-        row-after h =
-            rw (
-              gt-eqb row later,
-              lt-leb row (storeys table) above,
-              le-ltb row (firstWall table) past,
-              le-ltb row (partsRow table) (omega arith),
-              ne-eqb row (partsRow table) (λ e. omega arith),
-              ne-eqb row (datesRow table) (λ e. omega arith),
-            )
+  pub row-dates : row ≡ datesRow table → datesFault table row ≡ rowFault table row
+  row-dates h = rw (← row-past (omega arith), ne-eqb row (partsRow table) (λ e. omega arith), eq-eqb row (datesRow table) h)
+
+  pub row-after : datesRow table < row → fault row-out-of-order 1 ≡ rowFault table row
+  row-after h = rw (← row-past (omega arith), ne-eqb row (partsRow table) (λ e. omega arith), ne-eqb row (datesRow table) (λ e. omega arith))

@@ -15,10 +15,11 @@ use Rattle.answer.specs.First.{first}
 use Rattle.answer.specs.Length.{mostWalls}
 use Rattle.answer.proofs.Parts.{lent-part, part-size, part-element}
 use Rattle.answer.proofs.Places.{before-first, at-first, first-most}
-use Rattle.survey.specs.Table.{cell, isWall, storeys, firstWall, partsRow, datesRow, rowsDue}
+use Rattle.survey.specs.Table.{cell, isWall, storeys, firstWall, partsRow, rowsDue}
 use Rattle.survey.specs.Judgement.{judging}
 use Rattle.survey.specs.Walls.{rowsFrom, rowsWhere, isWallOf, storeyWalls, runStart, runLength, storeyRun}
 use Rattle.survey.specs.Acceptance.{Accepted}
+use Rattle.survey.proofs.Positions.{by-place}
 use Rattle.survey.proofs.RefusalNumbers.{judging-accepts, judging-refuses}
 use Rattle.survey.proofs.Acceptance.{accepted}
 
@@ -77,22 +78,15 @@ module _ (table : List ℕ) (h : (judging table) .number ≡ 0) where
 
   -- Only rows between the ends and the parts are walls.
   wall-stands : (row : ℕ) → row < rows → cell table row 0 ≡ 4 → (firstWall table ≤ row) × (row < partsRow table)
-  wall-stands row h kind = go (decLt 0 row) (decLt (storeys table) row) (decLt row (firstWall table)) (decLt row (partsRow table)) (decLt (partsRow table) row)
-    where
-      go : Dec (0 < row) → Dec (storeys table < row) → Dec (row < firstWall table) → Dec (row < partsRow table) → Dec (partsRow table < row)
-          → (firstWall table ≤ row) × (row < partsRow table)
-      go (yes p) (yes q) (no r) (yes s) _ = (omega arith, s)
-      go (no p) _ _ _ _ =
-          let first : row ≡ 0 = omega arith in
-          absurd (omega (arith, a .house-inside 0 (omega arith), rw first at kind))
-      go (yes p) (no q) _ _ _ = absurd (omega (arith, kind, a .storey-inside row p (omega arith) 0 (omega arith)))
-      go (yes p) (yes q) (yes r) _ _ = absurd (omega (arith, kind, a .ends-inside row q r 0 (omega arith)))
-      go (yes p) (yes q) (no r) (no s) (no t) =
-          let parts : row ≡ partsRow table = omega arith in
-          absurd (omega (arith, a .parts-inside 0 (omega arith), rw parts at kind))
-      go (yes p) (yes q) (no r) (no s) (yes t) =
-          let last : row ≡ datesRow table = omega (arith, a .sizes) in
-          absurd (omega (arith, a .dates-inside 0 (omega arith), rw last at kind))
+  wall-stands row h =
+      by-place table (λ row. cell table row 0 ≡ 4 → (firstWall table ≤ row) × (row < partsRow table))
+      (λ kind. absurd (omega (arith, kind, a .house-inside 0 (omega arith))))
+      (λ row some most kind. absurd (omega (arith, kind, a .storey-inside row some most 0 (omega arith))))
+      (λ row above before kind. absurd (omega (arith, kind, a .ends-inside row above before 0 (omega arith))))
+      (λ row past before kind. (past, before))
+      (λ kind. absurd (omega (arith, kind, a .parts-inside 0 (omega arith))))
+      (λ kind. absurd (omega (arith, kind, a .dates-inside 0 (omega arith))))
+      row (omega (arith, a .sizes))
 
   -- Storeys never fall, however far apart two walls are.
   pub rises : (row n : ℕ) → firstWall table ≤ row → row + n < partsRow table → cell table row 1 ≤ cell table (row + n) 1

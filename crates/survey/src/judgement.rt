@@ -21,7 +21,7 @@ ghost use Prim.Native.Nat.{_<_, _≤_, _+_, _*_};
 ghost use lib.ListN.{length};
 ghost use Rattle.answer.specs.Told.{told, refusal, row-out-of-order};
 ghost use Rattle.answer.specs.Length.{mostRows};
-ghost use Rattle.survey.specs.Table.{cell, firstWall, partsRow, datesRow};
+ghost use Rattle.survey.specs.Table.{cell, firstWall, partsRow};
 ghost use Rattle.survey.specs.Judgement.{rowFault, judging};
 ghost use Rattle.survey.specs.Internal.{JudgedTo};
 
@@ -49,41 +49,41 @@ fn out_of_order(row: usize) -> Answer
     }
 }
 
-// Judges the rest of a table whose rows before the dates row have no fault. `row` is the dates row.
-fn judge_dates(table: &[u32], rows: usize, row: usize) -> Answer
-    requires judged { ⌜ JudgedTo (now table) rows row ⌝ }
-    requires row { ⌜ row ≡ datesRow (now table) ⌝ }
+// The fault of a row after the walls, by the place where it stands. `parts` is the parts row.
+fn fault_after_walls(table: &[u32], parts: usize, row: usize) -> Fault
+    requires rows { ⌜ (parts ≡ partsRow (now table)) × (parts ≤ row) × (row ≤ parts + 1) ⌝ }
+    requires place { ⌜ 8 * row + 8 ≤ length (now table) ⌝ }
+    ensures { λ r. ⌜ r ≡ rowFault (now (table .entry)) row ⌝ }
+{
+    if row == parts {
+        return parts_fault(table, row);
+    }
+    dates_fault(table, row)
+}
+
+// Judges the rest of a table whose rows before the parts row have no fault: the parts row, and the dates row,
+// after which there is none. `parts` is the parts row.
+fn judge_last_rows(table: &[u32], rows: usize, parts: usize) -> Answer
+    requires judged { ⌜ JudgedTo (now table) rows parts ⌝ }
+    requires parts { ⌜ parts ≡ partsRow (now table) ⌝ }
     ensures { λ r. ⌜ told r ≡ judging (now (table .entry)) ⌝ }
 {
-    if row == rows {
+    let mut row = parts;
+    while row <= parts + 1 {
+        if row == rows {
+            return out_of_order(row);
+        }
+        let found = fault_after_walls(table, parts, row);
+        if 0 < found.number {
+            return refused(found, row);
+        }
+        row += 1;
+    }
+    if row < rows {
         return out_of_order(row);
-    }
-    let found = dates_fault(table, row);
-    if 0 < found.number {
-        return refused(found, row);
-    }
-    let after = row + 1;
-    if after < rows {
-        return out_of_order(after);
     }
     let count = rows as u32;
     Answer::Count(count)
-}
-
-// Judges the rest of a table whose rows before the parts row have no fault. `row` is the parts row.
-fn judge_parts(table: &[u32], rows: usize, row: usize) -> Answer
-    requires judged { ⌜ JudgedTo (now table) rows row ⌝ }
-    requires row { ⌜ row ≡ partsRow (now table) ⌝ }
-    ensures { λ r. ⌜ told r ≡ judging (now (table .entry)) ⌝ }
-{
-    if row == rows {
-        return out_of_order(row);
-    }
-    let found = parts_fault(table, row);
-    if 0 < found.number {
-        return refused(found, row);
-    }
-    judge_dates(table, rows, row + 1)
 }
 
 // Judges the rest of a table whose rows before the walls have no fault. `first` is the first wall's row.
@@ -102,7 +102,7 @@ fn judge_walls(table: &[u32], storeys: usize, rows: usize, first: usize) -> Answ
         }
         row += 1;
     }
-    judge_parts(table, rows, row)
+    judge_last_rows(table, rows, row)
 }
 
 // The fault of a row between the house's and the walls, by the place where it stands.

@@ -68,15 +68,15 @@ loop-again c =
     let inv = at-call .before .before .before .loop .inv in
     (judging-goes-on (inv .0) (a-wall (at-call .before) .0) (at-wall at-call) (c .if2 .left), omega arith, omega (arith, a-wall (at-call .before)))
 
-judge-parts-requires : tie.Need-judge-parts-requires Inv-loop μ-loop
-judge-parts-requires c κs =
+judge-last-rows-requires : tie.Need-judge-last-rows-requires Inv-loop μ-loop
+judge-last-rows-requires c κs =
     let at-loop = c .before .before in (
       at-loop .loop .inv .0,
       parts-row-here (now (at-loop .before .before .args .table)) _ (at-loop .loop .inv .1) (at-loop .loop .inv .2) (sym (c .before .is-wall .ensures) ∙ c .if1 .left),
     )
 
 returns-2 : tie.Need-returns-2 Inv-loop μ-loop
-returns-2 c = c .judge-parts .ensures
+returns-2 c = c .judge-last-rows .ensures
 
 pub judge-walls-spec : {M : Type 1} → statement M
 judge-walls-spec =
@@ -93,5 +93,5 @@ judge-walls-spec =
     add-row
     loop-less
     loop-again
-    judge-parts-requires
+    judge-last-rows-requires
     returns-2)
