@@ -13,11 +13,12 @@ use Rattle.method.specs.declared.rows.House.{House}
 use Rattle.method.specs.declared.rows.HousePart.{HousePart}
 use Rattle.method.specs.declared.rows.Strengths.{Strengths}
 use Rattle.method.specs.declared.rows.Bands.{Bands}
+use Rattle.method.specs.declared.scores.Quotient.{Quotient}
 use Rattle.method.specs.Held.{wallShare, heldStrength}
 use Rattle.method.specs.Required.{narrowFactor, requiredStrength}
 use Rattle.method.specs.LayoutFactor.{band, floorType, layoutFactor}
 use Rattle.method.specs.Deterioration.{deteriorationFactor}
-use Rattle.method.specs.Score.{score, scoreBeforeLayout, verdict}
+use Rattle.method.specs.Score.{quotient, score, scoreBeforeLayout, verdict}
 use Rattle.diagnosis.specs.declared.assessment.Assessment.{Assessment}
 use Rattle.diagnosis.specs.Rows.{houseOf, storeyOf, storeyPart, endA, endB, endPart, wallDirection, wallPlace, wallOf, itemsOf, startOfWork, age}
 
@@ -122,12 +123,19 @@ scoreWith table held storey direction = score (strengthsWith table held storey) 
 abbrev pub fullScore : List ℕ → ℕ → ℕ → ℕ
 fullScore table storey direction = scoreWith table (held table storey direction) storey direction
 
--- A storey's two scores, "direction 1 (X) then 2 (Y)", and the scores of a house, storey by storey from the ground up.
-abbrev pub storeyScores : List ℕ → ℕ → List ℕ
-storeyScores table storey = fullScore table storey 1 ∷ fullScore table storey 2 ∷ []
+-- The full score before its limit, with what is left over: "the whole hundredths, the remainder and the divisor" (document 02, request 4).
+unfoldable pub quotientWith : List ℕ → ℕ → ℕ → ℕ → Quotient
+quotientWith table held storey direction = quotient (strengthsWith table held storey) (layout table storey direction) (deterioration table)
+
+abbrev pub fullQuotient : List ℕ → ℕ → ℕ → Quotient
+fullQuotient table storey direction = quotientWith table (held table storey direction) storey direction
+
+-- A number for each storey and direction of a house: storey by storey from the ground up, in each "direction 1 (X) then 2 (Y)". Its scores.
+abbrev pub storeyByStorey : List ℕ → (ℕ → ℕ → ℕ) → List ℕ
+storeyByStorey table number = joined (storeys table) (λ below. number (below + 1) 1 ∷ number (below + 1) 2 ∷ [])
 
 unfoldable pub scores : List ℕ → List ℕ
-scores table = joined (storeys table) (λ below. storeyScores table (below + 1))
+scores table = storeyByStorey table (fullScore table)
 
 -- The least of some scores, of which none is above 999.
 unfoldable pub leastOf : List ℕ → ℕ
@@ -155,6 +163,7 @@ assessmentWith table held storey direction = record {
   required = required table storey;
   layout = layout table storey direction;
   score = scoreWith table held storey direction;
+  quotient = quotientWith table held storey direction;
 }
 
 abbrev pub assessment : List ℕ → ℕ → ℕ → Assessment

@@ -113,7 +113,7 @@ abbrev pub noSums : HeldSums
 noSums = record { all = 0; a = 0; b = 0 }
 
 abbrev pub noAssessment : Assessment
-noAssessment = record { held = 0; required = 0; layout = 0; score = 0 }
+noAssessment = record { held = 0; required = 0; layout = 0; score = 0; quotient = record { hundredths = 0; remainder = 0; divisor = 0 } }
 
 -- What each storey holds in each direction, by its walls.
 unfoldable pub sumsIn : List ℕ → ℕ → ℕ → HeldSums
@@ -163,15 +163,12 @@ houseAssessmentWith table holds = record {
 abbrev pub houseAssessment : List ℕ → HouseAssessment
 houseAssessment table = houseAssessmentWith table (allHeld (houseSums table))
 
--- What is worked out for a place; six numbers of one kind; and the record: the scores, their count, the verdict, and whether work started by 31 May
--- 1981, which is given.
+-- What is worked out for a place; six numbers of one kind; and the record, four kinds of six, by whether work started by 31 May 1981, which is given.
 abbrev pub assessmentIn : HouseAssessment → ℕ → Assessment
 assessmentIn found at = getD (found .places) at noAssessment
 
 abbrev pub each : (Assessment → ℕ) → HouseAssessment → List ℕ
-each kind found =
-    kind (assessmentIn found 0) ∷ kind (assessmentIn found 1) ∷ kind (assessmentIn found 2)
-    ∷ kind (assessmentIn found 3) ∷ kind (assessmentIn found 4) ∷ kind (assessmentIn found 5) ∷ []
+each kind found = six 6 0 (λ at. kind (assessmentIn found at))
 
 abbrev pub recordBy : HouseAssessment → ℕ → Record
 recordBy found started = record {
@@ -179,6 +176,9 @@ recordBy found started = record {
   count = found .count;
   verdict = verdict (found .least);
   started_by_31_may_1981 = started;
+  hundredths = each (λ (one : Assessment). one .quotient .hundredths) found;
+  remainders = each (λ (one : Assessment). one .quotient .remainder) found;
+  divisors = each (λ (one : Assessment). one .quotient .divisor) found;
 }
 
 -- The report of what is worked out: its rows, and its bytes.

@@ -12,11 +12,13 @@ use calendar::age_on;
 use method::Bands;
 use method::Fraction;
 use method::House;
+use method::Quotient;
 use method::Strengths;
 use method::band;
 use method::deterioration_factor;
 use method::floor_type;
 use method::layout_factor;
+use method::limited;
 use method::narrow_factor;
 use method::required_strength;
 use method::score;
@@ -26,12 +28,14 @@ ghost use Prim.Native.Nat.{min};
 ghost use Rattle.diagnosis.specs.House.{endBand, deterioration, assessmentWith};
 ghost use Rattle.diagnosis.specs.Internal.{Stands, HouseOf, EndGiven, Assessable, AllFit, allHeld, houseAssessmentWith, houseAssessment};
 
-// Held strength in 0.000001 kN, required strength in 0.000000001 kN, layout factor in hundredths, score.
+// Held strength in 0.000001 kN, required strength in 0.000000001 kN, layout factor in hundredths, score;
+// and the score before it is limited, with what is left over.
 pub struct Assessment {
     pub held: u64,
     pub required: u64,
     pub layout: u8,
     pub score: u32,
+    pub quotient: Quotient,
 }
 
 // What is worked out for a house.
@@ -101,12 +105,13 @@ fn assess(
         b: end_band(table, house, storey, direction, 1, narrow, sums.b),
     };
     let layout = layout_factor(ends, floor_type(row));
-    let score = score(Strengths { held, required }, layout, factor);
+    let quotient = score(Strengths { held, required }, layout, factor);
     Assessment {
         held,
         required,
         layout,
-        score,
+        score: limited(quotient),
+        quotient,
     }
 }
 
@@ -133,6 +138,11 @@ pub(crate) fn assess_house_with(table: &[u32], house: House, sums: [HeldSums; 6]
         required: 0,
         layout: 0,
         score: 0,
+        quotient: Quotient {
+            hundredths: 0,
+            remainder: 0,
+            divisor: 0,
+        },
     };
     let mut places = [none; 6];
     let mut least = 999;

@@ -12,10 +12,10 @@ ghost use Rattle.diagnosis.specs.House.{startedBy31May1981};
 ghost use Rattle.diagnosis.specs.Internal.{recordBy};
 
 // Document 01: "a record of up to six scores with the verdict"; document 02, request 3: it "also says
-// whether work started by 31 May 1981".
+// whether work started by 31 May 1981", and request 4: it "gives beside each score, the whole hundredths,
+// the remainder and the divisor". Six numbers go by storey from the ground up, and in each storey
+// direction X, then direction Y; 0 where there is no such storey.
 pub struct Record {
-    // By storey from the ground up, and in each storey direction X, then direction Y; 0 where there is
-    // no such storey.
     pub scores: [u32; 6],
     // How many scores there are: two a storey.
     pub count: u32,
@@ -23,6 +23,11 @@ pub struct Record {
     pub verdict: u32,
     // 1 where work on the house started by that day, the grant's last; else 0.
     pub started_by_31_may_1981: u32,
+    // Beside each score, before its limit of 999: hundredths × divisor + remainder is what was divided,
+    // and the remainder is smaller than the divisor.
+    pub hundredths: [u64; 6],
+    pub remainders: [u64; 6],
+    pub divisors: [u64; 6],
 }
 
 // Document 01: "scoring has its record in place of the count".
@@ -58,18 +63,28 @@ fn record_of(found: HouseAssessment, started: u32) -> Record
     ensures { λ r. ⌜ r ≡ recordBy found started ⌝ }
 {
     let places = found.places;
+    let mut scores = [0u32; 6];
+    let mut hundredths = [0u64; 6];
+    let mut remainders = [0u64; 6];
+    let mut divisors = [0u64; 6];
+    let mut at = 0;
+    while at < 6 {
+        let one = places[at];
+        let quotient = one.quotient;
+        scores[at] = one.score;
+        hundredths[at] = quotient.hundredths;
+        remainders[at] = quotient.remainder;
+        divisors[at] = quotient.divisor;
+        at += 1;
+    }
     Record {
-        scores: [
-            places[0].score,
-            places[1].score,
-            places[2].score,
-            places[3].score,
-            places[4].score,
-            places[5].score,
-        ],
+        scores,
         count: found.count,
         verdict: verdict(found.least),
         started_by_31_may_1981: started,
+        hundredths,
+        remainders,
+        divisors,
     }
 }
 
@@ -93,6 +108,9 @@ pub fn score(table: &[u32]) -> Scoring
                 count: 0,
                 verdict: 0,
                 started_by_31_may_1981: 0,
+                hundredths: [0u64; 6],
+                remainders: [0u64; 6],
+                divisors: [0u64; 6],
             },
         },
         Answer::Count(_) => {

@@ -37,6 +37,9 @@ toldHostScoring answer = record {
     count = answer .count;
     verdict = answer .verdict;
     started_by_31_may_1981 = answer .started_by_31_may_1981;
+    hundredths = answer .hundredths;
+    remainders = answer .remainders;
+    divisors = answer .divisors;
   };
 }
 

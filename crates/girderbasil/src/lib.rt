@@ -40,6 +40,11 @@ pub struct HostScoring {
     pub verdict: u32,
     // 1 where work on the house started by 31 May 1981, the grant's last day; else 0.
     pub started_by_31_may_1981: u32,
+    // Beside each score, before its limit of 999: the whole hundredths, the remainder and the divisor. The
+    // fields of 32 bits come first, so that nothing is padded.
+    pub hundredths: [u64; 6],
+    pub remainders: [u64; 6],
+    pub divisors: [u64; 6],
 }
 
 // What the scoring program prints for a sheet: `number` is 0 where that is the report, and else it is the
@@ -93,6 +98,9 @@ fn host_scoring(number: u32, row: u32, column: u32, result: Record) -> HostScori
     ensures { λ r. ⌜ toldHostScoring r ≡ record { scored = eqb number 0; number = number; row = row; column = column; result = result } ⌝ }
 {
     let scores = result.scores;
+    let hundredths = result.hundredths;
+    let remainders = result.remainders;
+    let divisors = result.divisors;
     HostScoring {
         number,
         row,
@@ -101,6 +109,9 @@ fn host_scoring(number: u32, row: u32, column: u32, result: Record) -> HostScori
         count: result.count,
         verdict: result.verdict,
         started_by_31_may_1981: result.started_by_31_may_1981,
+        hundredths,
+        remainders,
+        divisors,
     }
 }
 

@@ -32,5 +32,7 @@ pub use rows::Items;
 pub use rows::Storey;
 pub use rows::Strengths;
 pub use rows::Wall;
+pub use scores::Quotient;
+pub use scores::limited;
 pub use scores::score;
 pub use scores::verdict;

@@ -1,25 +1,51 @@
-// A storey and direction's score in hundredths, and a house's verdict.
+// A storey and direction's score, with what is left over, and a house's verdict.
 use crate::deterioration::Fraction;
 use crate::most_strengths::MOST_HELD;
 use crate::most_strengths::MOST_REQUIRED;
 use crate::most_strengths::smaller;
 use crate::rows::Strengths;
 ghost use mathlib.Core.Path.{_≡_};
-ghost use Rattle.method.specs.Score.{cappedScore, verdict};
+ghost use Rattle.method.specs.Score.{cappedQuotient, limited, verdict};
 
-// The score of what is held and required, a layout factor in hundredths and a deterioration factor.
-// Strengths above 60,000 kN count as that. Where nothing is required, as in no house, it is 0.
-pub fn score(strengths: Strengths, layout: u8, deterioration: Fraction) -> u32
-    ensures { λ r. ⌜ r ≡ cappedScore strengths layout deterioration ⌝ }
+// A score before it is limited: hundredths × divisor + remainder is what was divided, and the remainder is
+// smaller than the divisor.
+pub struct Quotient {
+    // The whole hundredths.
+    pub hundredths: u64,
+    // What is left over.
+    pub remainder: u64,
+    pub divisor: u64,
+}
+
+// The score of what is held and required, a layout factor in hundredths and a deterioration factor, with
+// what is left over. Strengths above 60,000 kN count as that. Where nothing is required, as in no house,
+// nothing is divided and all is left over.
+pub fn score(strengths: Strengths, layout: u8, deterioration: Fraction) -> Quotient
+    ensures { λ r. ⌜ r ≡ cappedQuotient strengths layout deterioration ⌝ }
 {
     let holds = smaller(strengths.held, MOST_HELD);
     let needs = smaller(strengths.required, MOST_REQUIRED);
+    let dividend = 1000 * holds * layout as u64 * deterioration.upper as u64;
     let divisor = needs * deterioration.lower as u64;
     if divisor == 0 {
-        return 0;
+        return Quotient {
+            hundredths: 0,
+            remainder: dividend,
+            divisor: 0,
+        };
     }
-    let dividend = 1000 * holds * layout as u64 * deterioration.upper as u64;
-    smaller(dividend / divisor, 999) as u32
+    Quotient {
+        hundredths: dividend / divisor,
+        remainder: dividend % divisor,
+        divisor,
+    }
+}
+
+// The score that is printed and judged by, at most 999.
+pub fn limited(found: Quotient) -> u32
+    ensures { λ r. ⌜ r ≡ limited found ⌝ }
+{
+    smaller(found.hundredths, 999) as u32
 }
 
 // The verdict of a house's least score, 1 to 4.
