@@ -9,11 +9,9 @@ use lib.Dec.{leb, lit≤}
 use borrow.Author.Tests.{leb-false, lt-leb}
 use Rattle.method.specs.declared.deterioration.Fraction.{Fraction}
 use Rattle.method.specs.declared.rows.Strengths.{Strengths}
-use Rattle.method.specs.Held.{mostHeld}
-use Rattle.method.specs.Required.{mostRequired}
 use Rattle.method.specs.LayoutFactor.{NoStronger, band, layoutFactor}
 use Rattle.method.specs.Deterioration.{_at-most_}
-use Rattle.method.specs.Score.{score, scoreBeforeLayout, cappedScore, verdict}
+use Rattle.method.specs.Score.{quotient, score, scoreBeforeLayout, verdict}
 use Rattle.method.proofs.Branches.{cond-most, cond-least}
 use Rattle.method.proofs.Bands.{band-falls, layout-falls}
 
@@ -43,7 +41,7 @@ module _
 
     -- The full score, rounding down included.
     pub score-falls : 0 < all .required → 0 < f .lower → score weaker worse g ≤ score all layout f
-    unfolding score
+    unfolding score quotient
     score-falls needs hf =
         let lesser = 1000 * weaker .held * worse * g .upper in
         let greater = 1000 * all .held * layout * f .upper in
@@ -67,16 +65,7 @@ full-score-falls floor f g less a-less b-less falls kept needs hf =
 
 pub score-most : (strengths : Strengths) (layout : ℕ) (f : Fraction) → score strengths layout f ≤ 999
 unfolding score
-score-most strengths layout f = min-le-right (1000 * strengths .held * layout * f .upper / (strengths .required * f .lower)) 999
-
--- Of strengths up to 60,000 kN the score that the function answers is the score.
-pub capped-score : (strengths : Strengths) (layout : ℕ) (f : Fraction) → strengths .held ≤ mostHeld → strengths .required ≤ mostRequired
-    → cappedScore strengths layout f ≡ score strengths layout f
-unfolding cappedScore
-capped-score strengths layout f holds needs =
-    let held-all : min (strengths .held) mostHeld ≡ strengths .held = omega arith in
-    let needed-all : min (strengths .required) mostRequired ≡ strengths .required = omega arith in
-    rw (held-all, needed-all)
+score-most strengths layout f = min-le-right (quotient strengths layout f .hundredths) 999
 
 -- The verdict's number is 1 to 4, and never falls when the least score falls.
 pub verdict-least : (least : ℕ) → 1 ≤ verdict least

@@ -9,6 +9,7 @@ pub mod Requirements
 pub mod Bands
 pub mod Points
 pub mod Fractions
+pub mod Quotients
 pub mod Comparisons
 pub mod Examples
 pub mod Theorems

@@ -1,7 +1,7 @@
 -- The method's theorems on one page, each stated in full and proved elsewhere: the last line of each names the law. What they speak of is
 -- defined in specs/. Assumes nothing.
 use mathlib.Core.Path.{_≡_}
-use Prim.Native.Nat.{ℕ, _+_, _*_, _<_, _≤_, max}
+use Prim.Native.Nat.{ℕ, _+_, _*_, _<_, _≤_, min, max}
 use lib.Bits.{bitAnd}
 use lib.Count.{ones}
 use Rattle.method.specs.declared.deterioration.Fraction.{Fraction}
@@ -15,13 +15,14 @@ use Rattle.method.specs.Held.{entry, below2, from2to3, from3to5, from5to
 use Rattle.method.specs.Required.{requiredStrength, mostRequired}
 use Rattle.method.specs.LayoutFactor.{NoStronger, band, layoutFactor}
 use Rattle.method.specs.Deterioration.{itemPoints, itemPointsUnderTen, points, _at-most_, deteriorationFactor}
-use Rattle.method.specs.Score.{score, scoreBeforeLayout, cappedScore, verdict}
-use Rattle.method.specs.Worked.{worked, expected, layoutTable, documentTable}
+use Rattle.method.specs.Score.{quotient, score, scoreBeforeLayout, cappedQuotient, verdict}
+use Rattle.method.specs.Worked.{worked, expected, workedQuotients, expectedQuotients, layoutTable, documentTable}
 use Rattle.method.proofs.Cases as cases
 use Rattle.method.proofs.Requirements as requirements
 use Rattle.method.proofs.Bands as bands
 use Rattle.method.proofs.Points as counts
 use Rattle.method.proofs.Fractions as fractions
+use Rattle.method.proofs.Quotients as quotients
 use Rattle.method.proofs.Comparisons as comparisons
 use Rattle.method.proofs.Examples as examples
 
@@ -61,6 +62,22 @@ points-under-ten-masked = counts.points-under-ten-masked
 -- 2,272 are the items of one point.
 pub points-masked : (set : ℕ) → points itemPointsUnderTen set + ones (bitAnd set 2272) ≡ points itemPoints set
 points-masked = counts.points-masked
+
+-- Score. "hundredths × divisor + remainder is the dividend, 1,000 × held × layout × the upper number of the deterioration fraction .. The divisor is
+-- the required strength times the lower number of the deterioration fraction" (document 02, request 4), and the score is the hundredths, at most 999.
+-- All of this for any numbers.
+pub score-divided : (strengths : Strengths) (layout : ℕ) (f : Fraction)
+    → let found = quotient strengths layout f in
+    (found .hundredths * found .divisor + found .remainder ≡ 1000 * strengths .held * layout * f .upper)
+    × (found .divisor ≡ strengths .required * f .lower)
+    × (score strengths layout f ≡ min (found .hundredths) 999)
+score-divided strengths layout f =
+    (quotients.all-divided strengths layout f, quotients.divisor-is strengths layout f, quotients.score-limited strengths layout f)
+
+-- "and the remainder is smaller than the divisor", where something is required. The lower number of a deterioration factor is never 0.
+pub remainder-smaller : (strengths : Strengths) (layout : ℕ) (f : Fraction) → 0 < strengths .required → 0 < f .lower
+    → let found = quotient strengths layout f in found .remainder < found .divisor
+remainder-smaller = quotients.remainder-smaller
 
 -- A house made worse, number by number. With a heavier class, a higher zone, softer ground or deeper snow no less is required of a storey or an
 -- end, nor with a larger area or narrow factor. (Deeper snow can also raise what a wall counts, so two houses that are compared have the same.)
@@ -102,11 +119,15 @@ full-score-falls = comparisons.full-score-falls
 pub verdict-rises : {lower least : ℕ} → lower ≤ least → verdict least ≤ verdict lower
 verdict-rises = comparisons.verdict-rises
 
--- Of strengths up to 60,000 kN, which no storey of a house exceeds, what the function `score` answers is the score.
-pub capped-score : (strengths : Strengths) (layout : ℕ) (f : Fraction) → strengths .held ≤ mostHeld → strengths .required ≤ mostRequired
-    → cappedScore strengths layout f ≡ score strengths layout f
-capped-score = comparisons.capped-score
+-- Of strengths up to 60,000 kN, which no storey of a house exceeds, what the function `score` answers is the quotient.
+pub capped-quotient : (strengths : Strengths) (layout : ℕ) (f : Fraction) → strengths .held ≤ mostHeld → strengths .required ≤ mostRequired
+    → cappedQuotient strengths layout f ≡ quotient strengths layout f
+capped-quotient = quotients.capped-quotient
 
 -- Houses worked through: document 01's numbers, and one for each definition that its examples leave open.
 pub worked-out : worked ≡ expected
 worked-out = examples.worked-out
+
+-- Scores with what is left over: P1's, one just under 100 and one at it, 14 of 20, under 7/10, no mark that counts, above 999.
+pub quotients-worked-out : workedQuotients ≡ expectedQuotients
+quotients-worked-out = examples.quotients-worked-out

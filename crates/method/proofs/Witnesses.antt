@@ -1,16 +1,16 @@
 -- The page's theorems on the cases of a joint factor, and on houses made worse, used at numbers that compute: with a further premise, a clause left
 -- out, a turned conclusion or another number they would not fit here. Assumes nothing.
 use mathlib.Core.Path.{_≡_, refl}
-use Prim.Native.Nat.{_*_, _≤_}
+use Prim.Native.Nat.{ℕ, _+_, _*_, _<_, _≤_}
 use lib.Dec.{lit<, lit≤}
 use Rattle.method.specs.Printed.{nth}
 use Rattle.method.specs.Held.{sharedRow, topEntry, entryIn, entry, interpolated, below2, from2to3, from3to5, from5to7, above7, rowFactor}
 use Rattle.method.specs.Required.{topLine, constant, snowAddition, perArea, groundFactor, requiredStrength}
 use Rattle.method.specs.LayoutFactor.{reached, band, layoutFactor}
 use Rattle.method.specs.Deterioration.{points, fraction, countedMarks, factorOf, deteriorationFactor}
-use Rattle.method.specs.Score.{score, cappedScore, verdict}
+use Rattle.method.specs.Score.{quotient, score, cappedQuotient, verdict}
 use Rattle.method.specs.Worked.{upperJointIV, snowyHouse, house, housePart, items, strengths, bands}
-use Rattle.method.proofs.Theorems.{cases-meet, case-by-case, required-rises, band-falls, layout-falls, deterioration-falls, score-before-falls, full-score-falls, verdict-rises, capped-score}
+use Rattle.method.proofs.Theorems.{cases-meet, case-by-case, required-rises, band-falls, layout-falls, deterioration-falls, score-before-falls, full-score-falls, verdict-rises, score-divided, remainder-smaller, capped-quotient}
 
 -- Joint IV in the upper storey of two, 0.7, 0.35, 0.25 and 0.2: the cases on both sides of each printed strength give these numbers,
 cases-met : (below2 upperJointIV ≡ 70) × (from2to3 upperJointIV 20 ≡ 70)
@@ -62,7 +62,7 @@ deterioration-fallen = deterioration-falls (items 8191 8) (items 8191 11) {young
 
 -- P10's storey at zone 90 before the layout factor, and one at zone 100 that holds less and has marks worth 4: 16 becomes 11.
 score-before-fallen : 11 ≤ 16
-unfolding score
+unfolding quotient score
 score-before-fallen =
     score-before-falls {all = strengths 2_340_000 14_400_000_000} {weaker = strengths 2_300_000 16_000_000_000} (fraction 1 1) (fraction 20 24)
     (record { holds = lit≤ tt; needs = lit≤ tt }) (lit≤ tt) (lit< tt) (lit< tt)
@@ -70,7 +70,7 @@ score-before-fallen =
 -- P1's storey with ends that hold 2 kN and 1.3 kN, at zone 90 without marks and then at zone 100 with marks worth 4. The better end stays in
 -- band B, and the other falls from B to A: 22 becomes 12.
 full-score-fallen : 12 ≤ 22
-unfolding score layoutFactor nth band reached
+unfolding quotient score layoutFactor nth band reached
 full-score-fallen =
     full-score-falls {all = strengths 3_300_000 14_400_000_000} {weaker = strengths 3_300_000 16_000_000_000}
     {a = strengths 2_000_000 3_600_000_000} {a' = strengths 2_000_000 4_000_000_000}
@@ -83,7 +83,22 @@ verdict-risen : 1 ≤ 4
 unfolding verdict
 verdict-risen = verdict-rises {lower = 69} {least = 150} (lit≤ tt)
 
--- With 60,000 kN both held and required, what is computed is still the score.
-capped-at-most : cappedScore (strengths 60_000_000_000 60_000_000_000_000) 100 (fraction 1 1) ≡ 100
-unfolding score
-capped-at-most = capped-score (strengths 60_000_000_000 60_000_000_000_000) 100 (fraction 1 1) (lit≤ tt) (lit≤ tt)
+-- P1 in X: 9.2 kN held, 16 kN required, 20/24; and its remainder.
+p1-divided : (47 * 384_000_000_000 + 352_000_000_000 ≡ 18_400_000_000_000) × (384_000_000_000 ≡ 16_000_000_000 * 24) × (_≡_ {A = ℕ} 47 47)
+unfolding quotient score
+p1-divided = score-divided (strengths 9_200_000 16_000_000_000) 100 (fraction 20 24)
+
+p1-remainder : 352_000_000_000 < 384_000_000_000
+unfolding quotient
+p1-remainder = remainder-smaller (strengths 9_200_000 16_000_000_000) 100 (fraction 20 24) (lit< tt) (lit< tt)
+
+-- Where nothing is required, all is left.
+nothing-divided : (0 * 0 + 234_000_000_000 ≡ 234_000_000_000) × (_≡_ {A = ℕ} 0 0) × (_≡_ {A = ℕ} 0 0)
+unfolding quotient score
+nothing-divided = score-divided (strengths 2_340_000 0) 100 (fraction 1 1)
+
+-- With 60,000 kN both held and required, what is computed is still the quotient.
+capped-at-most : cappedQuotient (strengths 60_000_000_000 60_000_000_000_000) 100 (fraction 1 1)
+    ≡ record { hundredths = 100; remainder = 0; divisor = 60_000_000_000_000 }
+unfolding quotient
+capped-at-most = capped-quotient (strengths 60_000_000_000 60_000_000_000_000) 100 (fraction 1 1) (lit≤ tt) (lit≤ tt)

@@ -9,12 +9,13 @@ use Rattle.method.specs.declared.rows.Wall.{Wall}
 use Rattle.method.specs.declared.rows.Items.{Items}
 use Rattle.method.specs.declared.rows.Strengths.{Strengths}
 use Rattle.method.specs.declared.rows.Bands.{Bands}
+use Rattle.method.specs.declared.scores.Quotient.{Quotient}
 use Rattle.method.specs.JointTables.{at2, at3, at5, at7}
 use Rattle.method.specs.Held.{entry, below2, from2to3, from3to5, from5to7, above7, jointFactor, wallShare}
 use Rattle.method.specs.Required.{constant, narrowFactor, requiredStrength}
 use Rattle.method.specs.LayoutFactor.{band, floorType, layoutFactor, byFloorType}
 use Rattle.method.specs.Deterioration.{itemPoints, itemPointsUnderTen, points, fraction, deteriorationFactor}
-use Rattle.method.specs.Score.{score, scoreBeforeLayout, cappedScore, verdict}
+use Rattle.method.specs.Score.{quotient, score, scoreBeforeLayout, cappedQuotient, verdict}
 
 -- A house by its storeys, weight class, zone, ground and foundation, and by its snow, or without snow,
 abbrev pub snowyHouse : ℕ → ℕ → ℕ → ℕ → ℕ → ℕ → House
@@ -141,9 +142,7 @@ worked =
     ∷ score (strengths 16_000_000 100_000_000) 100 (fraction 1 1)  -- "at most 999"
     ∷ band (strengths 120_000_000_000 60_000_000_000_000)  -- 120,000 kN held, 60,000 kN required: E
     ∷ score (strengths 120_000_000_000 60_000_000_000_000) 100 (fraction 1 1)
-    ∷ cappedScore (strengths 120_000_000_000 60_000_000_000_000) 100 (fraction 1 1)  -- computed with 60,000 kN held
     ∷ score (strengths 60_000_000_000 120_000_000_000_000) 100 (fraction 1 1)  -- 60,000 kN held, 120,000 kN required
-    ∷ cappedScore (strengths 60_000_000_000 120_000_000_000_000) 100 (fraction 1 1)  -- computed with 60,000 kN required
     ∷ jointFactor (snowyHouse 2 1 100 1 1 1) 2 (wall 1 4 31 1000)  -- P2's wall under 1 m of snow
     ∷ jointFactor (snowyHouse 2 1 100 1 1 1) 1 (wall 1 4 31 1000)  -- and on the ground
     ∷ jointFactor (snowyHouse 1 1 100 1 2 1) 1 (wall 1 2 30 1000)  -- one storey, foundation II, joint II, strength 3.0
@@ -272,9 +271,7 @@ expected =
     ∷ 999
     ∷ 4  -- above 60,000 kN
     ∷ 200
-    ∷ 100
     ∷ 50
-    ∷ 100
     ∷ 74  -- under snow: joint factors
     ∷ 99
     ∷ 80
@@ -313,6 +310,46 @@ expected =
     ∷ 35
     ∷ 25
     ∷ 20
+    ∷ []
+
+-- The whole hundredths, the remainder and the divisor of a score,
+abbrev pub threeOf : Quotient → List ℕ
+threeOf found = found .hundredths ∷ found .remainder ∷ found .divisor ∷ []
+
+-- worked through for one storey's strengths at a time,
+abbrev pub workedQuotients : List (List ℕ)
+workedQuotients =
+    threeOf (quotient (strengths 9_200_000 16_000_000_000) 100 (fraction 20 24))  -- P1 in X
+    ∷ threeOf (quotient (strengths 16_000_000 16_000_000_000) 100 (fraction 20 24))  -- and in Y
+    ∷ threeOf (quotient (strengths 9_200_000 160_000_000) 100 (fraction 20 24))  -- with 0.4 m² in the place of 40 m²: "before the limit of 999"
+    ∷ threeOf (quotient (strengths 15_998_000 16_000_000_000) 100 (fraction 1 1))  -- 2 N short of what is required,
+    ∷ threeOf (quotient (strengths 16_000_000 16_000_000_000) 100 (fraction 1 1))  -- and just as much
+    ∷ threeOf (quotient (strengths 2_340_000 14_400_000_000) 70 (fraction 1 1))  -- P10 at zone 90: the layout factor is in the dividend
+    ∷ threeOf (quotient (strengths 9_200_000 16_000_000_000) 100 (deteriorationFactor (items 5919 7) 2))  -- 14 of 20: 20, "not reduced"
+    ∷ threeOf (quotient (strengths 9_200_000 16_000_000_000) 100 (deteriorationFactor (items 8191 11) 2))  -- 16 of 24: "10 where the fraction is under 7/10"
+    ∷ threeOf (quotient (strengths 9_200_000 16_000_000_000) 100 (deteriorationFactor (items 8191 2048) 1))  -- "1 where no mark counts"
+    ∷ threeOf (quotient (strengths 60_000_000_000 3_920_000) 100 (fraction 1 1))  -- the most hundredths of any house
+    ∷ threeOf (quotient (strengths 2_340_000 0) 100 (fraction 1 1))  -- nothing required: all is left
+    ∷ threeOf (cappedQuotient (strengths 120_000_000_000 60_000_000_000_000) 100 (fraction 1 1))  -- computed with 60,000 kN held
+    ∷ threeOf (cappedQuotient (strengths 60_000_000_000 120_000_000_000_000) 100 (fraction 1 1))  -- computed with 60,000 kN required
+    ∷ []
+
+-- and what they are.
+abbrev pub expectedQuotients : List (List ℕ)
+expectedQuotients =
+    (47 ∷ 352_000_000_000 ∷ 384_000_000_000 ∷ [])
+    ∷ (83 ∷ 128_000_000_000 ∷ 384_000_000_000 ∷ [])
+    ∷ (4791 ∷ 2_560_000_000 ∷ 3_840_000_000 ∷ [])
+    ∷ (99 ∷ 15_800_000_000 ∷ 16_000_000_000 ∷ [])
+    ∷ (100 ∷ 0 ∷ 16_000_000_000 ∷ [])
+    ∷ (11 ∷ 5_400_000_000 ∷ 14_400_000_000 ∷ [])
+    ∷ (40 ∷ 80_000_000_000 ∷ 320_000_000_000 ∷ [])
+    ∷ (40 ∷ 40_000_000_000 ∷ 160_000_000_000 ∷ [])
+    ∷ (57 ∷ 8_000_000_000 ∷ 16_000_000_000 ∷ [])
+    ∷ (1_530_612_244 ∷ 3_520_000 ∷ 3_920_000 ∷ [])
+    ∷ (0 ∷ 234_000_000_000 ∷ 0 ∷ [])
+    ∷ (100 ∷ 0 ∷ 60_000_000_000_000 ∷ [])
+    ∷ (100 ∷ 0 ∷ 60_000_000_000_000 ∷ [])
     ∷ []
 
 -- The layout factors of every pair of a lower and a higher band (A is 0, E is 4), each by floor type 1/2/3, in the order of document 01's table,
