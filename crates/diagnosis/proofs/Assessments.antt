@@ -1,6 +1,6 @@
 -- What is worked out for a house: the score that is computed is the one that is defined; its own sums can be worked out with; and its record and
 -- report are those of its table. Assumes nothing.
-use mathlib.Core.Path.{_≡_, refl, _∙_}
+use mathlib.Core.Path.{_≡_, refl, sym, _∙_}
 use mathlib.Core.Bool.{Bool, true, false, cond}
 use mathlib.Core.List.{List}
 use Prim.Native.Nat.{ℕ, zero, suc, _+_, _*_, _<_, _≤_}
@@ -14,24 +14,31 @@ use Rattle.survey.specs.Table.{storeys}
 use Rattle.survey.specs.Judgement.{judging}
 use Rattle.survey.proofs.RefusalNumbers.{judging-accepts}
 use Rattle.method.specs.Held.{mostHeld}
-use Rattle.method.specs.Score.{cappedScore}
+use Rattle.method.specs.Score.{limited, cappedQuotient}
 use Rattle.method.proofs.Fractions.{deterioration-bounded}
-use Rattle.method.proofs.Comparisons.{capped-score}
+use Rattle.method.proofs.Quotients.{score-limited, capped-quotient}
 use Rattle.diagnosis.specs.Rows.{itemsOf, age}
-use Rattle.diagnosis.specs.House.{layout, deterioration, strengthsWith, scoreWith, scores, leastScore, houseVerdict, startedBy31May1981}
-use Rattle.diagnosis.specs.Answers.{recordOf}
+use Rattle.diagnosis.specs.declared.assessment.Assessment.{Assessment}
+use Rattle.diagnosis.specs.House.{layout, deterioration, strengthsWith, scoreWith, quotientWith, scores, leastScore, houseVerdict, startedBy31May1981, assessment}
+use Rattle.diagnosis.specs.Answers.{sixNumbers, recordOf}
 use Rattle.diagnosis.specs.Report.{resultRows, reportRows, reportLines, reportBytes, reporting, afterReporting}
-use Rattle.diagnosis.specs.Internal.{heldSums, six, storeyAt, directionAt, noSums, noAssessment, sumsIn, houseSums, AllFit, allHeld, assessmentAt, houseAssessmentWith, houseAssessment, recordBy, bytesBy, Printable, reportingBy, afterReportingBy}
+use Rattle.diagnosis.specs.Internal.{heldSums, six, storeyAt, directionAt, noSums, noAssessment, sumsIn, houseSums, AllFit, allHeld, assessmentAt, houseAssessmentWith, houseAssessment, each, recordBy, bytesBy, Printable, reportingBy, afterReportingBy}
 use Rattle.diagnosis.proofs.AcceptedTables.{storeys-few, required-within}
 use Rattle.diagnosis.proofs.Sums.{storey-held-most}
 use Rattle.diagnosis.proofs.SixPlaces.{six-at}
 
--- What `score` answers for strengths that an accepted table's storey may have is the score: they are within what it computes with.
-pub score-is : (table : List ℕ) → judging table .number ≡ 0 → (storey direction : ℕ) → 1 ≤ storey → storey ≤ storeys table → {held : ℕ} → held ≤ mostHeld
-    → cappedScore (strengthsWith table held storey) (layout table storey direction) (deterioration table) ≡ scoreWith table held storey direction
-unfolding scoreWith
-score-is table h storey direction some most {held} small =
-    capped-score (strengthsWith table held storey) (layout table storey direction) (deterioration table) small (required-within table h some most)
+-- What `score` answers for strengths that an accepted table's storey may have is the quotient: they are within what it computes with.
+pub quotient-is : (table : List ℕ) → judging table .number ≡ 0 → (storey direction : ℕ) → 1 ≤ storey → storey ≤ storeys table → {held : ℕ} → held ≤ mostHeld
+    → cappedQuotient (strengthsWith table held storey) (layout table storey direction) (deterioration table) ≡ quotientWith table held storey direction
+unfolding quotientWith
+quotient-is table h storey direction some most {held} small =
+    capped-quotient (strengthsWith table held storey) (layout table storey direction) (deterioration table) small (required-within table h some most)
+
+-- And limited it is the score.
+pub limited-score : (table : List ℕ) (held storey direction : ℕ) → limited (quotientWith table held storey direction) ≡ scoreWith table held storey direction
+unfolding quotientWith scoreWith
+limited-score table held storey direction =
+    sym (score-limited (strengthsWith table held storey) (layout table storey direction) (deterioration table))
 
 -- The lower number of the deterioration factor is positive.
 pub lower-some : (table : List ℕ) → 0 < deterioration table .lower
@@ -75,18 +82,36 @@ module _ (table : List ℕ) (h : judging table .number ≡ 0) where
         (required-within table h (omega arith) (omega arith));
   }
 
-  -- The record and the report, by how many storeys there are.
+  count-is : houseAssessment table .count ≡ 2 * storeys table
+  unfolding houseAssessmentWith
+  count-is = refl
+
+  -- Six numbers of one kind, by how many storeys there are; the least score; and so the record.
+  each-is : (kind : Assessment → ℕ) → kind noAssessment ≡ 0
+      → each kind (houseAssessment table) ≡ sixNumbers table (λ storey direction. kind (assessment table storey direction))
+  unfolding houseAssessmentWith houseSums sumsIn six sixNumbers joined over
+  each-is kind none =
+      by-storeys (storeys table) (storeys-few table h .1) (λ e. simp (e, none)) (λ e. simp (e, none)) (λ e. simp (e, none)) (λ e. simp (e, none))
+
+  least-is : houseAssessment table .least ≡ leastScore table
+  unfolding houseAssessmentWith houseSums sumsIn six leastScore scores joined
+  least-is = by-storeys (storeys table) (storeys-few table h .1) (λ e. simp e) (λ e. simp e) (λ e. simp e) (λ e. simp e)
+
   pub record-is : recordBy (houseAssessment table) (startedBy31May1981 table) ≡ recordOf table
-  unfolding houseAssessmentWith houseSums sumsIn six recordOf houseVerdict leastScore scores joined over
-  record-is = by-storeys (storeys table) (storeys-few table h .1) (λ e. simp e) (λ e. simp e) (λ e. simp e) (λ e. simp e)
+  unfolding recordOf houseVerdict
+  record-is =
+      rw (
+        each-is (λ (one : Assessment). one .score) refl,
+        each-is (λ (one : Assessment). one .quotient .hundredths) refl,
+        each-is (λ (one : Assessment). one .quotient .remainder) refl,
+        each-is (λ (one : Assessment). one .quotient .divisor) refl,
+        count-is,
+        least-is,
+      )
 
   report-bytes : bytesBy (houseAssessment table) ≡ reportBytes table
   unfolding houseAssessmentWith houseSums sumsIn six reportBytes reportRows resultRows leastScore scores joined
   report-bytes = by-storeys (storeys table) (storeys-few table h .1) (λ e. simp e) (λ e. simp e) (λ e. simp e) (λ e. simp e)
-
-  count-is : houseAssessment table .count ≡ 2 * storeys table
-  unfolding houseAssessmentWith
-  count-is = refl
 
   pub report-answer : (lent : ℕ) → reportingBy (houseAssessment table) lent ≡ reporting table lent
   unfolding reportingBy reporting

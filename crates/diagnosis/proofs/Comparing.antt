@@ -14,7 +14,7 @@ use Rattle.survey.specs.Table.{cell, storeys, endsRow, partsRow, datesRow}
 use Rattle.survey.specs.Judgement.{within}
 use Rattle.survey.specs.Walls.{storeyWalls}
 use Rattle.survey.specs.Acceptance.{Accepted}
-use Rattle.survey.proofs.Acceptance.{accepted, accepted-zone}
+use Rattle.survey.proofs.Acceptance.{accepted}
 use Rattle.survey.proofs.AlikeTables.{parts-row-alike, walls-alike}
 use Rattle.method.specs.declared.rows.HousePart.{HousePart}
 use Rattle.method.specs.Required.{narrowFactor}
@@ -22,7 +22,7 @@ use Rattle.method.specs.LayoutFactor.{NoStronger, floorType}
 use Rattle.method.specs.Deterioration.{_at-most_}
 use Rattle.method.proofs.Shares as shares
 use Rattle.method.proofs.Requirements as requirements
-use Rattle.method.proofs.Requirements.{narrow-least, required-rises, required-positive}
+use Rattle.method.proofs.Requirements.{required-rises}
 use Rattle.method.proofs.Fractions.{deterioration-falls}
 use Rattle.method.proofs.Comparisons.{score-before-falls, full-score-falls, verdict-rises}
 use Rattle.diagnosis.specs.Rows.{foundation, snow, houseOf, storeyOf, storeyPart, endA, endB, wallOf, present, marked, itemsOf, completion, surveyDay, age}
@@ -30,7 +30,7 @@ use Rattle.diagnosis.specs.House.{InHouse, share, held, endHeld, narrow,
 use Rattle.diagnosis.specs.Answers.{recordOf}
 use Rattle.diagnosis.specs.Comparison.{houseMayDiffer, partsMayDiffer, datesMayDiffer, mayDiffer, SameOrWorse, BandKept, NoBetter}
 use Rattle.diagnosis.proofs.ScoreLists.{scores-length, score-at, record-score, record-told, least-falls, in-house-at}
-use Rattle.diagnosis.proofs.AcceptedTables.{storeys-few}
+use Rattle.diagnosis.proofs.AcceptedTables.{required-some}
 use Rattle.diagnosis.proofs.Assessments.{lower-some}
 
 module _ (A B : List ℕ) (w : SameOrWorse A B) where
@@ -146,15 +146,6 @@ module _ (A B : List ℕ) (w : SameOrWorse A B) where
     unfolding required
     storey-required = required-of-rises _ _ refl (rw (storeys-same, storey-same 2 (omega arith)))
 
-    required-some : 0 < required A storey
-    unfolding required requiredOf narrow
-    required-some =
-        let class = a .house-inside 2 (omega arith) in
-        let area = a .storey-inside storey (s .some-storey) (s .last-storey) 2 (omega arith) in
-        let least = narrow-least (houseOf A) (storeyOf A storey) in
-        required-positive (houseOf A) (storeyPart (houseOf A) (storeyOf A storey)) (s .some-storey) (s .last-storey) (storeys-few A (w .A-accepted) .1)
-        (class .0) (class .1) (area .0) (omega (arith, accepted-zone a)) (omega (arith, least))
-
     -- And of an end.
     ends-same : (column : ℕ) → column < 8 → cell A (endsRow A storey direction) column ≡ cell B (endsRow B storey direction) column
     ends-same column inside =
@@ -174,7 +165,7 @@ module _ (A B : List ℕ) (w : SameOrWorse A B) where
 
     before-falls : scoreBefore B storey direction ≤ scoreBefore A storey direction
     unfolding scoreBefore
-    before-falls = score-before-falls (deterioration A) (deterioration B) storey-weaker worn required-some (lower-some A)
+    before-falls = score-before-falls (deterioration A) (deterioration B) storey-weaker worn (required-some A (w .A-accepted) (s .some-storey) (s .last-storey)) (lower-some A)
 
     -- Nor is the full score, where the higher band is kept.
     full-falls : BandKept A B storey direction → fullScore B storey direction ≤ fullScore A storey direction
@@ -182,7 +173,7 @@ module _ (A B : List ℕ) (w : SameOrWorse A B) where
     full-falls kept =
         rw (← floor-same)
         (full-score-falls (storeyFloorType A storey) (deterioration A) (deterioration B) storey-weaker (end-weaker endA (omega arith))
-        (end-weaker endB (omega arith)) worn kept required-some (lower-some A))
+        (end-weaker endB (omega arith)) worn kept (required-some A (w .A-accepted) (s .some-storey) (s .last-storey)) (lower-some A))
 
   in-both : {storey direction : ℕ} → InHouse A storey direction → InHouse B storey direction
   in-both s = record {

@@ -27,19 +27,21 @@ use Rattle.method.specs.Held.{position, foundationUsed, sharedRow, topEntry, en
 use Rattle.method.specs.Required.{topLine, constant, snowAddition, perArea, groundFactor, narrowFactor, requiredStrength}
 use Rattle.method.specs.LayoutFactor.{reached, band, floorType, layoutFactor}
 use Rattle.method.specs.Deterioration.{points, countedMarks, factorOf, deteriorationFactor}
-use Rattle.method.specs.Score.{score, scoreBeforeLayout, verdict}
+use Rattle.method.specs.Score.{quotient, limited, score, scoreBeforeLayout, verdict}
 use Rattle.method.specs.Worked.{worked, expected}
 use Rattle.method.proofs.Examples.{worked-out}
 use Rattle.diagnosis.specs.Rows.{endA, endB}
-use Rattle.diagnosis.specs.House.{inDirection, solidAtEnd, held, endHeld, narrow, requiredOf, required, endRequired, endBand, higherBand, storeyFloorType, layout, deterioration, strengthsWith, scoreBefore, scoreWith, fullScore, scores, leastOf, leastScore, houseVerdict, startedBy31May1981}
+use Rattle.method.specs.declared.scores.Quotient.{Quotient}
+use Rattle.diagnosis.specs.House.{inDirection, solidAtEnd, held, endHeld, narrow, requiredOf, required, endRequired, endBand, higherBand, storeyFloorType, layout, deterioration, strengthsWith, scoreBefore, scoreWith, quotientWith, fullScore, fullQuotient, scores, leastOf, leastScore, houseVerdict, startedBy31May1981}
 use Rattle.diagnosis.specs.declared.held.HeldSums.{HeldSums}
 use Rattle.diagnosis.specs.declared.scores.Outcome.the-variants.{Refused}
 use Rattle.diagnosis.specs.Internal.{heldSums}
-use Rattle.diagnosis.specs.Answers.{toldOutcome, recordOf, scoring}
+use Rattle.diagnosis.specs.Answers.{toldOutcome, sixNumbers, recordOf, scoring}
 use Rattle.diagnosis.specs.Comparison.{scoreAt}
 use Rattle.diagnosis.specs.Report.{resultRows, reportRows, reportBytes, reporting, refusalLine}
 use Rattle.diagnosis.specs.Program.{mostNumbers, tableOf, diagnosing, afterDiagnosing, mostReportBytes, output}
-use Rattle.diagnosis.specs.Worked.{p1Report, p10, underTenDay, tenDay, sound, heavy, zone100, softGround, overTen, moreMarks, allWorse, startedOn, underSnow, snowySound, snowyWorse, weakJoints, figures, sameBands}
+use Rattle.diagnosis.proofs.Assessments.{limited-score}
+use Rattle.diagnosis.specs.Worked.{p1Report, smallFloor, withParts, withMiddleWall, onTheGround, p10, underTenDay, tenDay, sound, heavy, zone100, softGround, overTen, moreMarks, allWorse, startedOn, underSnow, snowySound, snowyWorse, weakJoints, figures, sameBands}
 
 -- P1's sheet can be read, and is P1's table.
 p1-read : reading p1Sheet mostNumbers ≡ counted 12
@@ -69,7 +71,7 @@ p10-walls zone known = rw (p10-judged zone known)
 
 -- From the walls on all is computed. Laws below that name this one in their `unfolding` line unfold what it does.
 pub p1-scores : scores p1 ≡ 47 ∷ 83 ∷ []
-unfolding scores joined scoreWith scoreBefore layout higherBand endBand endRequired required requiredOf narrow deterioration storeyFloorType held endHeld solidAtEnd inDirection rowsFrom wallRows first nth position foundationUsed sharedRow topEntry entryIn entry interpolated rowFactor jointFactor solidShare openingShare wallShare heldStrength topLine constant snowAddition perArea groundFactor narrowFactor requiredStrength reached band floorType layoutFactor points countedMarks factorOf deteriorationFactor score isLeap daysIn isDate tenYearsAfter ageOn
+unfolding scores joined scoreWith scoreBefore layout higherBand endBand endRequired required requiredOf narrow deterioration storeyFloorType held endHeld solidAtEnd inDirection rowsFrom wallRows first nth position foundationUsed sharedRow topEntry entryIn entry interpolated rowFactor jointFactor solidShare openingShare wallShare heldStrength topLine constant snowAddition perArea groundFactor narrowFactor requiredStrength reached band floorType layoutFactor points countedMarks factorOf deteriorationFactor quotient score isLeap daysIn isDate tenYearsAfter ageOn
 p1-scores = rw p1-walls
 
 p1-rows : reportRows p1 ≡
@@ -167,11 +169,15 @@ module _ (house : List ℕ) (two-storeys : storeys house ≡ 2) where
   abbrev higherBy : ℕ → ℕ → HeldSums → ℕ
   higherBy storey direction sums = max (bandBy storey direction endA (sums .a)) (bandBy storey direction endB (sums .b))
 
+  abbrev layoutBy : ℕ → ℕ → HeldSums → ℕ
+  layoutBy storey direction sums =
+      layoutFactor (record { a = bandBy storey direction endA (sums .a); b = bandBy storey direction endB (sums .b) }) (storeyFloorType house storey)
+
   abbrev fullBy : ℕ → ℕ → HeldSums → ℕ
-  fullBy storey direction sums =
-      score (strengthsWith house (sums .all) storey)
-      (layoutFactor (record { a = bandBy storey direction endA (sums .a); b = bandBy storey direction endB (sums .b) }) (storeyFloorType house storey))
-      (deterioration house)
+  fullBy storey direction sums = score (strengthsWith house (sums .all) storey) (layoutBy storey direction sums) (deterioration house)
+
+  abbrev quotientBy : ℕ → ℕ → HeldSums → Quotient
+  quotientBy storey direction sums = quotient (strengthsWith house (sums .all) storey) (layoutBy storey direction sums) (deterioration house)
 
   abbrev beforeBy : ℕ → HeldSums → ℕ
   beforeBy storey sums = scoreBeforeLayout (strengthsWith house (sums .all) storey) (deterioration house)
@@ -192,6 +198,11 @@ module _ (house : List ℕ) (two-storeys : storeys house ≡ 2) where
       ∷ (higherBy 1 1 (holds .0 i) ∷ higherBy 1 2 (holds .1 i) ∷ higherBy 2 1 (holds .2 i) ∷ higherBy 2 2 (holds .3 i) ∷ [])
       ∷ []
       )
+
+  quotient-by-sums : (storey direction : ℕ) {sums : HeldSums} → heldSums house storey direction ≡ sums
+      → fullQuotient house storey direction ≡ quotientBy storey direction sums
+  unfolding quotientWith layout endBand
+  quotient-by-sums storey direction holds = λ i. quotientBy storey direction (holds i)
 
 -- What is held in all, at end a and at end b.
 abbrev sums : ℕ → ℕ → ℕ → HeldSums
@@ -224,7 +235,7 @@ module _ (weight zone ground surveyDay marked : ℕ) (accepted : Judged (twoStor
 
 -- From what they hold on all is computed.
 pub sound-figures : figures sound ≡ (131 ∷ 200 ∷ 350 ∷ 250 ∷ []) ∷ (188 ∷ 200 ∷ 350 ∷ 250 ∷ []) ∷ sameBands ∷ []
-unfolding endRequired required requiredOf narrow deterioration storeyFloorType wallRows first nth topLine constant snowAddition perArea groundFactor narrowFactor requiredStrength reached band floorType layoutFactor points countedMarks factorOf deteriorationFactor score isLeap daysIn isDate tenYearsAfter ageOn
+unfolding endRequired required requiredOf narrow deterioration storeyFloorType wallRows first nth topLine constant snowAddition perArea groundFactor narrowFactor requiredStrength reached band floorType layoutFactor points countedMarks factorOf deteriorationFactor quotient score isLeap daysIn isDate tenYearsAfter ageOn
 sound-figures = by-sums _ refl (holds 1 90 1 underTenDay 2048 (two-judged .0))
 
 pub heavy-figures : figures heavy ≡ (103 ∷ 157 ∷ 244 ∷ 174 ∷ []) ∷ (147 ∷ 157 ∷ 244 ∷ 174 ∷ []) ∷ sameBands ∷ []
@@ -301,16 +312,128 @@ pub weak-joints-figures :
 unfolding sound-figures
 weak-joints-figures = (by-sums _ refl (snowy-hold .2), by-sums _ refl (snowy-hold .3))
 
+-- Scores with what is left over: P1; P1 with a small floor; P1 without marks at 99 and at 100; 14 of 20 points; and 16 of 24, which is under 7/10.
+abbrev Judged12 : List ℕ → Type 0
+Judged12 table = judging table ≡ counted 12
+
+changed-judged : Judged12 smallFloor × Judged12 (withMiddleWall 3999) × Judged12 (withMiddleWall 4000) × Judged12 (withParts 5919 7) × Judged12 (withParts 8191 11)
+unfolding p10-judged
+changed-judged = (refl, refl, refl, refl, refl)
+
+-- The walls of such a house, and from them all that is on the ground.
+abbrev OneStoreyWalls : List ℕ → Type 0
+OneStoreyWalls table = storeyWalls table 1 ≡ rowsFrom table 4 6
+
+changed-walls : OneStoreyWalls smallFloor × OneStoreyWalls (withMiddleWall 3999) × OneStoreyWalls (withMiddleWall 4000) × OneStoreyWalls (withParts 5919 7) × OneStoreyWalls (withParts 8191 11)
+unfolding p1-walls
+changed-walls = (rw (changed-judged .0), rw (changed-judged .1), rw (changed-judged .2), rw (changed-judged .3), rw (changed-judged .4))
+
+pub left-over :
+    (onTheGround p1 ≡ (47 ∷ 47 ∷ 352_000_000_000 ∷ 384_000_000_000 ∷ []) ∷ (83 ∷ 83 ∷ 128_000_000_000 ∷ 384_000_000_000 ∷ []) ∷ [])
+    × (onTheGround smallFloor ≡ (999 ∷ 4791 ∷ 2_560_000_000 ∷ 3_840_000_000 ∷ []) ∷ (999 ∷ 8333 ∷ 1_280_000_000 ∷ 3_840_000_000 ∷ []) ∷ [])
+    × (onTheGround (withMiddleWall 3999) ≡ (57 ∷ 57 ∷ 8_000_000_000 ∷ 16_000_000_000 ∷ []) ∷ (99 ∷ 99 ∷ 15_800_000_000 ∷ 16_000_000_000 ∷ []) ∷ [])
+    × (onTheGround (withMiddleWall 4000) ≡ (57 ∷ 57 ∷ 8_000_000_000 ∷ 16_000_000_000 ∷ []) ∷ (100 ∷ 100 ∷ 0 ∷ 16_000_000_000 ∷ []) ∷ [])
+    × (onTheGround (withParts 5919 7) ≡ (40 ∷ 40 ∷ 80_000_000_000 ∷ 320_000_000_000 ∷ []) ∷ (70 ∷ 70 ∷ 0 ∷ 320_000_000_000 ∷ []) ∷ [])
+    × (onTheGround (withParts 8191 11) ≡ (40 ∷ 40 ∷ 40_000_000_000 ∷ 160_000_000_000 ∷ []) ∷ (70 ∷ 70 ∷ 0 ∷ 160_000_000_000 ∷ []) ∷ [])
+unfolding p1-scores scoring recordOf sixNumbers over quotientWith
+left-over = (
+  rw (p1-judged, p1-walls),
+  rw (changed-judged .0, changed-walls .0),
+  rw (changed-judged .1, changed-walls .1),
+  rw (changed-judged .2, changed-walls .2),
+  rw (changed-judged .3, changed-walls .3),
+  rw (changed-judged .4, changed-walls .4),
+)
+
+-- The quotients of the best and the worst of the pairs above.
+abbrev three : ℕ → ℕ → ℕ → Quotient
+three hundredths remainder divisor = record { hundredths = hundredths; remainder = remainder; divisor = divisor }
+
+sound-quotients :
+    (fullQuotient sound 1 1 ≡ three 131 23_220_000_000 29_880_000_000)
+    × (fullQuotient sound 1 2 ≡ three 200 24_000_000_000 29_880_000_000)
+    × (fullQuotient sound 2 1 ≡ three 350 3_500_000_000 9_990_000_000)
+    × (fullQuotient sound 2 2 ≡ three 250 2_500_000_000 9_990_000_000)
+unfolding sound-figures
+sound-quotients =
+    let held = holds 1 90 1 underTenDay 2048 (two-judged .0) in
+    (quotient-by-sums _ refl 1 1 (held .0), quotient-by-sums _ refl 1 2 (held .1), quotient-by-sums _ refl 2 1 (held .2), quotient-by-sums _ refl 2 2 (held .3))
+
+all-worse-quotients :
+    (fullQuotient allWorse 1 1 ≡ three 38 778_050_000_000 1_526_400_000_000)
+    × (fullQuotient allWorse 1 2 ≡ three 74 1_046_400_000_000 1_526_400_000_000)
+    × (fullQuotient allWorse 2 1 ≡ three 116 101_600_000_000 572_400_000_000)
+    × (fullQuotient allWorse 2 2 ≡ three 82 563_200_000_000 572_400_000_000)
+unfolding sound-figures
+all-worse-quotients =
+    let held = holds 2 100 2 tenDay 2056 (two-judged .6) in
+    (quotient-by-sums _ refl 1 1 (held .0), quotient-by-sums _ refl 1 2 (held .1), quotient-by-sums _ refl 2 1 (held .2), quotient-by-sums _ refl 2 2 (held .3))
+
+p1-quotients : (fullQuotient p1 1 1 ≡ three 47 352_000_000_000 384_000_000_000) × (fullQuotient p1 1 2 ≡ three 83 128_000_000_000 384_000_000_000)
+unfolding p1-scores quotientWith
+p1-quotients = (rw p1-walls, rw p1-walls)
+
+p1-record : recordOf p1 ≡ record {
+  scores = 47 ∷ 83 ∷ 0 ∷ 0 ∷ 0 ∷ 0 ∷ [];
+  count = 2;
+  verdict = 4;
+  started_by_31_may_1981 = 1;
+  hundredths = 47 ∷ 83 ∷ 0 ∷ 0 ∷ 0 ∷ 0 ∷ [];
+  remainders = 352_000_000_000 ∷ 128_000_000_000 ∷ 0 ∷ 0 ∷ 0 ∷ 0 ∷ [];
+  divisors = 384_000_000_000 ∷ 384_000_000_000 ∷ 0 ∷ 0 ∷ 0 ∷ 0 ∷ [];
+}
+unfolding recordOf sixNumbers joined over houseVerdict leastScore scores leastOf verdict startedBy31May1981 wallRows first
+p1-record = rw (← limited-score, ← limited-score, p1-quotients .0, p1-quotients .1)
+
+-- The record of a house of two storeys, by its quotients.
+module _ (house : List ℕ) (two-storeys : storeys house ≡ 2) {one two three four : Quotient} where
+  by-quotients :
+      (fullQuotient house 1 1 ≡ one) × (fullQuotient house 1 2 ≡ two) × (fullQuotient house 2 1 ≡ three) × (fullQuotient house 2 2 ≡ four)
+      → recordOf house
+      ≡ record {
+        scores = limited one ∷ limited two ∷ limited three ∷ limited four ∷ 0 ∷ 0 ∷ [];
+        count = 4;
+        verdict = verdict (leastOf (limited one ∷ limited two ∷ limited three ∷ limited four ∷ []));
+        started_by_31_may_1981 = startedBy31May1981 house;
+        hundredths = one .hundredths ∷ two .hundredths ∷ three .hundredths ∷ four .hundredths ∷ 0 ∷ 0 ∷ [];
+        remainders = one .remainder ∷ two .remainder ∷ three .remainder ∷ four .remainder ∷ 0 ∷ 0 ∷ [];
+        divisors = one .divisor ∷ two .divisor ∷ three .divisor ∷ four .divisor ∷ 0 ∷ 0 ∷ [];
+      }
+  unfolding recordOf sixNumbers joined over houseVerdict leastScore scores
+  by-quotients found = rw (two-storeys, ← limited-score, ← limited-score, ← limited-score, ← limited-score, found .0, found .1, found .2, found .3)
+
 -- The records of P1 and of the best and the worst of them, and where a record has the score of a storey and direction.
 pub worsened-records :
-    (recordOf p1 ≡ record { scores = 47 ∷ 83 ∷ 0 ∷ 0 ∷ 0 ∷ 0 ∷ []; count = 2; verdict = 4; started_by_31_may_1981 = 1 })
-    × (recordOf sound ≡ record { scores = 131 ∷ 200 ∷ 350 ∷ 250 ∷ 0 ∷ 0 ∷ []; count = 4; verdict = 2; started_by_31_may_1981 = 0 })
-    × (recordOf allWorse ≡ record { scores = 38 ∷ 74 ∷ 116 ∷ 82 ∷ 0 ∷ 0 ∷ []; count = 4; verdict = 4; started_by_31_may_1981 = 0 })
+    (recordOf p1 ≡ record {
+      scores = 47 ∷ 83 ∷ 0 ∷ 0 ∷ 0 ∷ 0 ∷ [];
+      count = 2;
+      verdict = 4;
+      started_by_31_may_1981 = 1;
+      hundredths = 47 ∷ 83 ∷ 0 ∷ 0 ∷ 0 ∷ 0 ∷ [];
+      remainders = 352_000_000_000 ∷ 128_000_000_000 ∷ 0 ∷ 0 ∷ 0 ∷ 0 ∷ [];
+      divisors = 384_000_000_000 ∷ 384_000_000_000 ∷ 0 ∷ 0 ∷ 0 ∷ 0 ∷ [];
+    })
+    × (recordOf sound ≡ record {
+      scores = 131 ∷ 200 ∷ 350 ∷ 250 ∷ 0 ∷ 0 ∷ [];
+      count = 4;
+      verdict = 2;
+      started_by_31_may_1981 = 0;
+      hundredths = 131 ∷ 200 ∷ 350 ∷ 250 ∷ 0 ∷ 0 ∷ [];
+      remainders = 23_220_000_000 ∷ 24_000_000_000 ∷ 3_500_000_000 ∷ 2_500_000_000 ∷ 0 ∷ 0 ∷ [];
+      divisors = 29_880_000_000 ∷ 29_880_000_000 ∷ 9_990_000_000 ∷ 9_990_000_000 ∷ 0 ∷ 0 ∷ [];
+    })
+    × (recordOf allWorse ≡ record {
+      scores = 38 ∷ 74 ∷ 116 ∷ 82 ∷ 0 ∷ 0 ∷ [];
+      count = 4;
+      verdict = 4;
+      started_by_31_may_1981 = 0;
+      hundredths = 38 ∷ 74 ∷ 116 ∷ 82 ∷ 0 ∷ 0 ∷ [];
+      remainders = 778_050_000_000 ∷ 1_046_400_000_000 ∷ 101_600_000_000 ∷ 563_200_000_000 ∷ 0 ∷ 0 ∷ [];
+      divisors = 1_526_400_000_000 ∷ 1_526_400_000_000 ∷ 572_400_000_000 ∷ 572_400_000_000 ∷ 0 ∷ 0 ∷ [];
+    })
     × (_≡_ {A = List ℕ} (scoreAt 1 1 ∷ scoreAt 1 2 ∷ scoreAt 2 1 ∷ scoreAt 2 2 ∷ scoreAt 3 1 ∷ scoreAt 3 2 ∷ []) (0 ∷ 1 ∷ 2 ∷ 3 ∷ 4 ∷ 5 ∷ []))
-unfolding recordOf over houseVerdict leastScore leastOf verdict startedBy31May1981 wallRows first
-worsened-records =
-    let scored : List (List ℕ) → List ℕ = λ figures. getD figures 0 [] in
-    (rw p1-scores, rw (ap scored sound-figures), rw (ap scored all-worse-figures), refl)
+unfolding leastOf verdict startedBy31May1981 wallRows first
+worsened-records = (p1-record, by-quotients sound refl sound-quotients, by-quotients allWorse refl all-worse-quotients, refl)
 
 -- What scoring answers of a house on which work started on the grant's last day, and a day later; and of P1 with an age, which is refused.
 started-judged : Judged (startedOn 19810531) × Judged (startedOn 19810601) × (judging (set p1 6 2) ≡ refusal 4 1 7)
@@ -325,6 +448,14 @@ grants-last-day = (rw (started-judged .0), rw (started-judged .1))
 
 pub refused-record :
     scoring (set p1 6 2)
-    ≡ toldOutcome (Refused 4 1 7) (record { scores = 0 ∷ 0 ∷ 0 ∷ 0 ∷ 0 ∷ 0 ∷ []; count = 0; verdict = 0; started_by_31_may_1981 = 0 })
+    ≡ toldOutcome (Refused 4 1 7) (record {
+      scores = 0 ∷ 0 ∷ 0 ∷ 0 ∷ 0 ∷ 0 ∷ [];
+      count = 0;
+      verdict = 0;
+      started_by_31_may_1981 = 0;
+      hundredths = 0 ∷ 0 ∷ 0 ∷ 0 ∷ 0 ∷ 0 ∷ [];
+      remainders = 0 ∷ 0 ∷ 0 ∷ 0 ∷ 0 ∷ 0 ∷ [];
+      divisors = 0 ∷ 0 ∷ 0 ∷ 0 ∷ 0 ∷ 0 ∷ [];
+    })
 unfolding scoring
 refused-record = rw (started-judged .2)

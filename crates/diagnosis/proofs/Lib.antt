@@ -4,6 +4,7 @@ pub mod Sums
 pub mod SixPlaces
 pub mod Assessments
 pub mod ScoreLists
+pub mod RecordNumbers
 pub mod ReportRows
 pub mod ReportNumbers
 pub mod Reporting

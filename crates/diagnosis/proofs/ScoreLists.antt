@@ -19,8 +19,8 @@ use Rattle.diagnosis.specs.declared.scores.Outcome.{Outcome}
 use Rattle.diagnosis.specs.declared.scores.Outcome.the-variants.{Scored, Refused}
 use Rattle.diagnosis.specs.declared.scores.Record.{Record}
 use Rattle.diagnosis.specs.declared.scores.Scoring.{Scoring}
-use Rattle.diagnosis.specs.House.{InHouse, held, layout, deterioration, strengthsWith, scoreWith, fullScore, storeyScores, scores, leastOf, leastScore}
-use Rattle.diagnosis.specs.Answers.{noScores, noRecord, ToldScoring, toldOutcome, toldScoring, recordOf, scoring}
+use Rattle.diagnosis.specs.House.{InHouse, held, layout, deterioration, strengthsWith, scoreWith, fullScore, storeyByStorey, scores, leastOf, leastScore}
+use Rattle.diagnosis.specs.Answers.{noNumbers, sixNumbers, noRecord, ToldScoring, toldOutcome, toldScoring, recordOf, scoring}
 use Rattle.diagnosis.specs.Comparison.{scoreAt}
 use Rattle.diagnosis.proofs.AcceptedTables.{storeys-few}
 
@@ -35,10 +35,13 @@ pub score-more : (f : ℕ → ℕ) (at : ℕ) {least x : ℕ} → least ≡ leas
 unfolding joined
 score-more f at so-far one = rw (so-far, one, add-one) (least-more (joined at (λ i. f i ∷ [])) (f at))
 
--- Two scores a storey.
+-- A number for each storey and direction is two a storey, and so are the scores.
+numbers-length : (table : List ℕ) (number : ℕ → ℕ → ℕ) → length (storeyByStorey table number) ≡ 2 * storeys table
+numbers-length table number = joined-length 2 (λ below. number (below + 1) 1 ∷ number (below + 1) 2 ∷ []) (λ i. refl) (storeys table)
+
 pub scores-length : (table : List ℕ) → length (scores table) ≡ 2 * storeys table
 unfolding scores
-scores-length table = joined-length 2 (λ below. storeyScores table (below + 1)) (λ i. refl) (storeys table)
+scores-length table = numbers-length table (fullScore table)
 
 -- What holds of 1 and 2 holds of a direction, and of a storey of two.
 pub one-or-two : (P : ℕ → Type 0) → P 1 → P 2 → (n : ℕ) → 1 ≤ n → n ≤ 2 → P n
@@ -48,22 +51,30 @@ one-or-two P one two (suc (suc zero)) some most = two
 one-or-two P one two (suc (suc (suc n))) some most = absurd (omega arith)
 
 module _ (table : List ℕ) (storey direction : ℕ) (s : InHouse table storey direction) where
-  -- Among them, the score of a storey and direction.
+  -- Among such numbers, that of a storey and direction; and from the front of six places.
+  module _ (number : ℕ → ℕ → ℕ) where
+    number-listed : getD (storeyByStorey table number) (scoreAt storey direction) 0 ≡ number storey direction
+    number-listed =
+        let next : storey - 1 + 1 ≡ storey = omega arith in
+        sym (part-at 2 (storey - 1) (storeyByStorey table number) (direction - 1) (omega arith))
+        ∙ ap (λ (p : List ℕ). getD p (direction - 1) 0)
+        (joined-part 2 (λ below. number (below + 1) 1 ∷ number (below + 1) 2 ∷ []) (λ i. refl) (storeys table) (storey - 1) (omega arith))
+        ∙ rw next (one-or-two (λ d. getD (number storey 1 ∷ number storey 2 ∷ []) (d - 1) 0 ≡ number storey d) refl refl direction (s .some-direction) (s .last-direction))
+
+    pub number-in-six : getD (sixNumbers table number) (scoreAt storey direction) 0 ≡ number storey direction
+    unfolding sixNumbers over
+    number-in-six =
+        let listed = storeyByStorey table number in
+        List·getD-append listed (drop (length listed) noNumbers) 0 (scoreAt storey direction) (omega (arith, numbers-length table number)) ∙ number-listed
+
+  -- So it is with the scores, also in the house's record.
   pub score-listed : getD (scores table) (scoreAt storey direction) 0 ≡ fullScore table storey direction
   unfolding scores
-  score-listed =
-      let next : storey - 1 + 1 ≡ storey = omega arith in
-      sym (part-at 2 (storey - 1) (scores table) (direction - 1) (omega arith))
-      ∙ ap (λ (p : List ℕ). getD p (direction - 1) 0)
-      (joined-part 2 (λ below. storeyScores table (below + 1)) (λ i. refl) (storeys table) (storey - 1) (omega arith))
-      ∙ rw next (one-or-two (λ d. getD (storeyScores table storey) (d - 1) 0 ≡ fullScore table storey d) refl refl direction (s .some-direction) (s .last-direction))
+  score-listed = number-listed (fullScore table)
 
-  -- And in the house's record.
   pub record-score : getD (recordOf table .scores) (scoreAt storey direction) 0 ≡ fullScore table storey direction
-  unfolding recordOf over
-  record-score =
-      List·getD-append (scores table) (drop (length (scores table)) noScores) 0 (scoreAt storey direction) (omega (arith, scores-length table))
-      ∙ score-listed
+  unfolding recordOf
+  record-score = number-in-six (fullScore table)
 
 -- The record that scoring answers, where the table is accepted.
 told-result : (outcome : Outcome) (result : Record) → toldOutcome outcome result .result ≡ result

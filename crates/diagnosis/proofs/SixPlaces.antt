@@ -1,6 +1,6 @@
 -- Six places by storey and direction, filled one after the other. Assumes nothing.
 use mathlib.Core.Path.{_≡_, refl}
-use mathlib.Core.List.{[], _∷_}
+use mathlib.Core.List.{List, [], _∷_}
 use Prim.Native.Nat.{ℕ, zero, suc, _+_, _<_}
 use native.Mathlib.Omega.{arith}
 use lib.ListN.{getD, set}
@@ -23,9 +23,13 @@ module _ {A : Type 0} (none : A) (f : ℕ → A) where
   six-none = refl
 
   -- One place more.
-  pub six-more : (at : ℕ) → at < 6 → set (six at none f) at (f at) ≡ six (at + 1) none f
+  six-more : (at : ℕ) → at < 6 → set (six at none f) at (f at) ≡ six (at + 1) none f
   unfolding six
   six-more = by-place (λ at. set (six at none f) at (f at) ≡ six (at + 1) none f) refl refl refl refl refl refl
+
+  -- The same of a list and a number that are known to be these.
+  pub six-set : {filled : List A} {x : A} (at : ℕ) → at < 6 → filled ≡ six at none f → x ≡ f at → set filled at x ≡ six (at + 1) none f
+  six-set at inside so-far one = rw (so-far, one) (six-more at inside)
 
   -- What stands in a place that is filled.
   pub six-at : (count at : ℕ) → at < count → at < 6 → getD (six count none f) at none ≡ f at

@@ -3,7 +3,7 @@
 use mathlib.Core.Path.{_≡_}
 use mathlib.Core.Bool.{true, false}
 use mathlib.Core.List.{List, [], _∷_}
-use Prim.Native.Nat.{ℕ, _*_, _<_, _≤_}
+use Prim.Native.Nat.{ℕ, _+_, _*_, _<_, _≤_, min}
 use native.Mathlib.Omega.{arith}
 use lib.ListN.{length, getD, set, take, replicate}
 use lib.Dec.{eqb}
@@ -20,13 +20,14 @@ use Rattle.method.specs.Worked.{worked, expected}
 use Rattle.diagnosis.specs.declared.scores.Outcome.the-variants.{Refused}
 use Rattle.diagnosis.specs.declared.scores.Scoring.{Scoring}
 use Rattle.diagnosis.specs.Rows.{weight, zone, ground, marked, surveyDay}
-use Rattle.diagnosis.specs.House.{InHouse, higherBand, scoreBefore, fullScore, leastScore, houseVerdict}
+use Rattle.diagnosis.specs.House.{InHouse, held, required, layout, higherBand, deterioration, scoreBefore, fullScore, leastScore, houseVerdict}
 use Rattle.diagnosis.specs.Answers.{toldOutcome, toldScoring, recordOf, scoring}
 use Rattle.diagnosis.specs.Report.{reportRows, reportLines, reportBytes, reporting}
 use Rattle.diagnosis.specs.Program.{tableOf, diagnosing, afterDiagnosing, mostReportBytes, output}
 use Rattle.diagnosis.specs.Comparison.{mayDiffer, NoLower, SameOrWorse, BandKept, scoreAt, NoBetter, Applies}
-use Rattle.diagnosis.specs.Worked.{p1Report, p10, sound, heavy, zone100, softGround, overTen, moreMarks, allWorse, startedOn, underSnow, snowySound, snowyWorse, weakJoints, figures, sameBands}
+use Rattle.diagnosis.specs.Worked.{p1Report, smallFloor, withParts, withMiddleWall, onTheGround, p10, sound, heavy, zone100, softGround, overTen, moreMarks, allWorse, startedOn, underSnow, snowySound, snowyWorse, weakJoints, figures, sameBands}
 use Rattle.diagnosis.proofs.ScoreLists as score-lists
+use Rattle.diagnosis.proofs.RecordNumbers as record-numbers
 use Rattle.diagnosis.proofs.ReportNumbers as report-numbers
 use Rattle.diagnosis.proofs.Reporting as program
 use Rattle.diagnosis.proofs.Comparing as comparing
@@ -47,6 +48,31 @@ least-score-one = score-lists.least-score-one
 pub record-score : (table : List ℕ) (storey direction : ℕ) → InHouse table storey direction
     → getD (recordOf table .scores) (scoreAt storey direction) 0 ≡ fullScore table storey direction
 record-score = score-lists.record-score
+
+-- "the record gives beside each score, the whole hundredths, the remainder and the divisor, such that hundredths × divisor + remainder is the dividend,
+-- 1,000 × held × layout × the upper number of the deterioration fraction, and the remainder is smaller than the divisor. The divisor is the required
+-- strength times the lower number of the deterioration fraction .. All three are before the limit of 999" (document 02, request 4): so it is in the
+-- record of any scoring of a table that is not refused.
+pub record-divided : (table : List ℕ) → judging table .number ≡ 0 → (storey direction : ℕ) → InHouse table storey direction
+    → (a : Scoring) → toldScoring a ≡ scoring table
+    → let place : List ℕ → ℕ = λ numbers. getD numbers (scoreAt storey direction) 0 in
+    (place (a .result .hundredths) * place (a .result .divisors) + place (a .result .remainders)
+    ≡ 1000 * held table storey direction * layout table storey direction * deterioration table .upper)
+    × (place (a .result .remainders) < place (a .result .divisors))
+    × (place (a .result .divisors) ≡ required table storey * deterioration table .lower)
+    × (place (a .result .scores) ≡ min (place (a .result .hundredths)) 999)
+record-divided = record-numbers.record-divided
+
+-- Score, hundredths, remainder and divisor in X and in Y: of P1; with a small floor, where they are above the limit; without marks, at 99 and at 100;
+-- of 14 of 20 points, where the divisor keeps 20; and of 16 of 24, which is under 7/10.
+pub left-over :
+    (onTheGround p1 ≡ (47 ∷ 47 ∷ 352_000_000_000 ∷ 384_000_000_000 ∷ []) ∷ (83 ∷ 83 ∷ 128_000_000_000 ∷ 384_000_000_000 ∷ []) ∷ [])
+    × (onTheGround smallFloor ≡ (999 ∷ 4791 ∷ 2_560_000_000 ∷ 3_840_000_000 ∷ []) ∷ (999 ∷ 8333 ∷ 1_280_000_000 ∷ 3_840_000_000 ∷ []) ∷ [])
+    × (onTheGround (withMiddleWall 3999) ≡ (57 ∷ 57 ∷ 8_000_000_000 ∷ 16_000_000_000 ∷ []) ∷ (99 ∷ 99 ∷ 15_800_000_000 ∷ 16_000_000_000 ∷ []) ∷ [])
+    × (onTheGround (withMiddleWall 4000) ≡ (57 ∷ 57 ∷ 8_000_000_000 ∷ 16_000_000_000 ∷ []) ∷ (100 ∷ 100 ∷ 0 ∷ 16_000_000_000 ∷ []) ∷ [])
+    × (onTheGround (withParts 5919 7) ≡ (40 ∷ 40 ∷ 80_000_000_000 ∷ 320_000_000_000 ∷ []) ∷ (70 ∷ 70 ∷ 0 ∷ 320_000_000_000 ∷ []) ∷ [])
+    × (onTheGround (withParts 8191 11) ≡ (40 ∷ 40 ∷ 40_000_000_000 ∷ 160_000_000_000 ∷ []) ∷ (70 ∷ 70 ∷ 0 ∷ 160_000_000_000 ∷ []) ∷ [])
+left-over = examples.left-over
 
 -- A table is scored just where the refusal's number is 0, so a host can tell by the number.
 pub scored-by-number : (table : List ℕ) → scoring table .scored ≡ eqb (scoring table .number) 0
@@ -123,9 +149,33 @@ worsened-figures = (
 -- The verdict goes from 2 to 4, as the theorem says that it gets no better. The first record is P1's, on which work started by 31 May 1981. These are
 -- the places of a record.
 pub worsened-records :
-    (recordOf p1 ≡ record { scores = 47 ∷ 83 ∷ 0 ∷ 0 ∷ 0 ∷ 0 ∷ []; count = 2; verdict = 4; started_by_31_may_1981 = 1 })
-    × (recordOf sound ≡ record { scores = 131 ∷ 200 ∷ 350 ∷ 250 ∷ 0 ∷ 0 ∷ []; count = 4; verdict = 2; started_by_31_may_1981 = 0 })
-    × (recordOf allWorse ≡ record { scores = 38 ∷ 74 ∷ 116 ∷ 82 ∷ 0 ∷ 0 ∷ []; count = 4; verdict = 4; started_by_31_may_1981 = 0 })
+    (recordOf p1 ≡ record {
+      scores = 47 ∷ 83 ∷ 0 ∷ 0 ∷ 0 ∷ 0 ∷ [];
+      count = 2;
+      verdict = 4;
+      started_by_31_may_1981 = 1;
+      hundredths = 47 ∷ 83 ∷ 0 ∷ 0 ∷ 0 ∷ 0 ∷ [];
+      remainders = 352_000_000_000 ∷ 128_000_000_000 ∷ 0 ∷ 0 ∷ 0 ∷ 0 ∷ [];
+      divisors = 384_000_000_000 ∷ 384_000_000_000 ∷ 0 ∷ 0 ∷ 0 ∷ 0 ∷ [];
+    })
+    × (recordOf sound ≡ record {
+      scores = 131 ∷ 200 ∷ 350 ∷ 250 ∷ 0 ∷ 0 ∷ [];
+      count = 4;
+      verdict = 2;
+      started_by_31_may_1981 = 0;
+      hundredths = 131 ∷ 200 ∷ 350 ∷ 250 ∷ 0 ∷ 0 ∷ [];
+      remainders = 23_220_000_000 ∷ 24_000_000_000 ∷ 3_500_000_000 ∷ 2_500_000_000 ∷ 0 ∷ 0 ∷ [];
+      divisors = 29_880_000_000 ∷ 29_880_000_000 ∷ 9_990_000_000 ∷ 9_990_000_000 ∷ 0 ∷ 0 ∷ [];
+    })
+    × (recordOf allWorse ≡ record {
+      scores = 38 ∷ 74 ∷ 116 ∷ 82 ∷ 0 ∷ 0 ∷ [];
+      count = 4;
+      verdict = 4;
+      started_by_31_may_1981 = 0;
+      hundredths = 38 ∷ 74 ∷ 116 ∷ 82 ∷ 0 ∷ 0 ∷ [];
+      remainders = 778_050_000_000 ∷ 1_046_400_000_000 ∷ 101_600_000_000 ∷ 563_200_000_000 ∷ 0 ∷ 0 ∷ [];
+      divisors = 1_526_400_000_000 ∷ 1_526_400_000_000 ∷ 572_400_000_000 ∷ 572_400_000_000 ∷ 0 ∷ 0 ∷ [];
+    })
     × (_≡_ {A = List ℕ} (scoreAt 1 1 ∷ scoreAt 1 2 ∷ scoreAt 2 1 ∷ scoreAt 2 2 ∷ scoreAt 3 1 ∷ scoreAt 3 2 ∷ []) (0 ∷ 1 ∷ 2 ∷ 3 ∷ 4 ∷ 5 ∷ []))
 worsened-records = examples.worsened-records
 
@@ -138,7 +188,15 @@ grants-last-day = examples.grants-last-day
 -- P1 with age 2 is refused, and its record is all 0, though work on it started by that day.
 pub refused-record :
     scoring (set p1 6 2)
-    ≡ toldOutcome (Refused 4 1 7) (record { scores = 0 ∷ 0 ∷ 0 ∷ 0 ∷ 0 ∷ 0 ∷ []; count = 0; verdict = 0; started_by_31_may_1981 = 0 })
+    ≡ toldOutcome (Refused 4 1 7) (record {
+      scores = 0 ∷ 0 ∷ 0 ∷ 0 ∷ 0 ∷ 0 ∷ [];
+      count = 0;
+      verdict = 0;
+      started_by_31_may_1981 = 0;
+      hundredths = 0 ∷ 0 ∷ 0 ∷ 0 ∷ 0 ∷ 0 ∷ [];
+      remainders = 0 ∷ 0 ∷ 0 ∷ 0 ∷ 0 ∷ 0 ∷ [];
+      divisors = 0 ∷ 0 ∷ 0 ∷ 0 ∷ 0 ∷ 0 ∷ [];
+    })
 refused-record = examples.refused-record
 
 pub worsened-verdict : houseVerdict sound ≤ houseVerdict allWorse

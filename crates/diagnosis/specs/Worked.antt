@@ -1,11 +1,12 @@
 -- The houses that the examples of this crate speak of: those of document 01, "Houses worked through", and pairs to which demand 3 applies.
 use mathlib.Core.List.{List, [], _∷_, _++_}
 use Prim.Native.Nat.{ℕ}
-use lib.ListN.{set}
+use lib.ListN.{getD, set}
 use Rattle.answer.specs.Text.{bytes}
-use Rattle.answer.specs.Houses.{twoStoreys}
+use Rattle.answer.specs.Houses.{p1, twoStoreys}
 use Rattle.diagnosis.specs.Rows.{snowColumn}
 use Rattle.diagnosis.specs.House.{higherBand, scoreBefore, scores}
+use Rattle.diagnosis.specs.Answers.{scoring}
 
 -- P1's report, the three lines that document 01 prints.
 abbrev pub p1Report : List ℕ
@@ -13,6 +14,27 @@ p1Report =
     bytes "       6       1       1     920    1600     100      83      47\n"
     ++ bytes "       6       1       2    1600    1600     100      83      83\n"
     ++ bytes "       7       4      47       0       0       0       0       0\n"
+
+-- P1's house with 0.4 m² of floor and ends of 0.1 m² each, so that its scores would be above 999;
+abbrev pub smallFloor : List ℕ
+smallFloor = set (set (set (set (set p1 10 40) 19 10) 20 10) 27 10) 28 10
+
+-- with other sets of parts, present and marked;
+abbrev pub withParts : ℕ → ℕ → List ℕ
+withParts present marked = set (set p1 81 present) 82 marked
+
+-- and without marks, by the length of the middle wall in Y.
+abbrev pub withMiddleWall : ℕ → List ℕ
+withMiddleWall length = set (withParts 8191 0) 69 length
+
+-- What a house's record has for the ground storey in X and in Y: score, whole hundredths, remainder and divisor.
+abbrev pub recordedAt : List ℕ → ℕ → List ℕ
+recordedAt table at =
+    let found = scoring table .result in
+    getD (found .scores) at 0 ∷ getD (found .hundredths) at 0 ∷ getD (found .remainders) at 0 ∷ getD (found .divisors) at 0 ∷ []
+
+abbrev pub onTheGround : List ℕ → List (List ℕ)
+onTheGround table = recordedAt table 0 ∷ recordedAt table 1 ∷ []
 
 -- P10's houses, by zone: P1's with no marks and in X only end walls, of 540 and 630 mm.
 abbrev pub p10 : ℕ → List ℕ

@@ -3,7 +3,7 @@ use mathlib.Core.Path.{_≡_, _∙_}
 use native.Mathlib.Omega.{arith}
 use denote.Ref.{now}
 use Rattle.diagnosis.specs.House.{narrow, requiredOf, required, storeyFloorType, layout}
-use Rattle.diagnosis.proofs.Assessments.{score-is}
+use Rattle.diagnosis.proofs.Assessments.{quotient-is, limited-score}
 use borrow.Author.Needs.{needs}
 use Rattle.diagnosis.proofs.assessment.assess.Statement.{statement}
 use Rattle.diagnosis.proofs.assessment.assess.Tie as tie
@@ -64,17 +64,23 @@ layout-is c =
     let at-row = at-ends .before .before .before .before .before in
     c .layout-factor .ensures ∙ rw (at-ends .before .end-band .ensures, at-ends .end-band2 .ensures, c .before .floor-type .ensures, at-row .storey-of .ensures)
 
+limited-requires : tie.Need-limited-requires
+limited-requires c κs = search needs
+
 returns : tie.Need-returns
 returns c =
-    let at-required = c .before .before .before .before .before in
+    let at-score = c .before in
+    let at-required = at-score .before .before .before .before .before in
     let start = at-required .before .before .before .before .before in
     let here = start .pre .in-house in
     rw (
-      c .score .ensures,
+      c .limited .ensures,
+      at-score .score .ensures,
       required-is at-required,
-      layout-is (c .before),
+      layout-is (at-score .before),
       start .pre .factor-is,
-      score-is _ (start .pre .house-of .stands .accepted) _ _ (here .some-storey) (here .last-storey) (start .pre .sums-fit .most),
+      quotient-is _ (start .pre .house-of .stands .accepted) _ _ (here .some-storey) (here .last-storey) (start .pre .sums-fit .most),
+      limited-score,
     )
 
 pub assess-spec : {M : Type 1} → statement M
@@ -90,4 +96,5 @@ assess-spec =
     floor-type-requires
     layout-factor-requires
     score-requires
+    limited-requires
     returns)

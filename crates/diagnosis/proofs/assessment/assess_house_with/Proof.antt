@@ -8,7 +8,7 @@ use Rattle.answer.specs.Lists.{joined}
 use Rattle.survey.specs.Table.{storeys}
 use Rattle.diagnosis.specs.House.{leastOf}
 use Rattle.diagnosis.specs.Internal.{six, noAssessment, allHeld, assessmentAt, scoresBelow, houseAssessmentWith}
-use Rattle.diagnosis.proofs.SixPlaces.{six-none, six-more}
+use Rattle.diagnosis.proofs.SixPlaces.{six-none, six-set}
 use Rattle.diagnosis.proofs.ScoreLists.{score-more, in-house-at}
 use borrow.Author.Needs.{needs}
 use Rattle.diagnosis.proofs.assessment.assess_house_with.Statement.{statement}
@@ -82,12 +82,12 @@ loop-again c =
     let found = c .before .assess .ensures in (
       inv .0,
       search needs,
-      rw (inv .2, found) (six-more noAssessment _ at (omega arith)),
+      six-set noAssessment _ at (omega arith) (inv .2) found,
       c .lesser .ensures ∙ score-more _ at (inv .3) (λ i. found i .score),
     )
 
-cast-t25 : tie.Need-cast-t25 Inv-loop μ-loop
-cast-t25 c = search needs
+cast-t26 : tie.Need-cast-t26 Inv-loop μ-loop
+cast-t26 c = search needs
 
 returns : tie.Need-returns Inv-loop μ-loop
 unfolding houseAssessmentWith
@@ -118,5 +118,5 @@ assess-house-with-spec =
     add-at
     loop-less
     loop-again
-    cast-t25
+    cast-t26
     returns)
