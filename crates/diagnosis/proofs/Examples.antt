@@ -34,7 +34,7 @@ use Rattle.diagnosis.specs.Rows.{endA, endB}
 use Rattle.method.specs.declared.scores.Quotient.{Quotient}
 use Rattle.diagnosis.specs.House.{inDirection, solidAtEnd, held, endHeld, narrow, requiredOf, required, endRequired, endBand, higherBand, storeyFloorType, layout, deterioration, strengthsWith, scoreBefore, scoreWith, quotientWith, fullScore, fullQuotient, scores, leastOf, leastScore, houseVerdict, startedBy31May1981}
 use Rattle.diagnosis.specs.declared.held.HeldSums.{HeldSums}
-use Rattle.diagnosis.specs.declared.scores.Outcome.the-variants.{Refused}
+use Rattle.diagnosis.specs.declared.scores.Outcome.the-variants.{Scored, Refused}
 use Rattle.diagnosis.specs.Internal.{heldSums}
 use Rattle.diagnosis.specs.Answers.{toldOutcome, sixNumbers, recordOf, scoring}
 use Rattle.diagnosis.specs.Comparison.{scoreAt}
@@ -434,6 +434,11 @@ pub worsened-records :
     × (_≡_ {A = List ℕ} (scoreAt 1 1 ∷ scoreAt 1 2 ∷ scoreAt 2 1 ∷ scoreAt 2 2 ∷ scoreAt 3 1 ∷ scoreAt 3 2 ∷ []) (0 ∷ 1 ∷ 2 ∷ 3 ∷ 4 ∷ 5 ∷ []))
 unfolding leastOf verdict startedBy31May1981 wallRows first
 worsened-records = (p1-record, by-quotients sound refl sound-quotients, by-quotients allWorse refl all-worse-quotients, refl)
+
+-- What scoring answers of the worst.
+pub all-worse-scored : toldOutcome Scored (recordOf allWorse) ≡ scoring allWorse
+unfolding scoring
+all-worse-scored = rw (two-judged .6)
 
 -- What scoring answers of a house on which work started on the grant's last day, and a day later; and of P1 with an age, which is refused.
 started-judged : Judged (startedOn 19810531) × Judged (startedOn 19810601) × (judging (set p1 6 2) ≡ refusal 4 1 7)

@@ -17,7 +17,7 @@ use Rattle.sheet.specs.Sheet.{writing, afterWriting}
 use Rattle.survey.specs.Table.{cell, storeys}
 use Rattle.survey.specs.Judgement.{judging, within}
 use Rattle.method.specs.Worked.{worked, expected}
-use Rattle.diagnosis.specs.declared.scores.Outcome.the-variants.{Refused}
+use Rattle.diagnosis.specs.declared.scores.Outcome.the-variants.{Scored, Refused}
 use Rattle.diagnosis.specs.declared.scores.Scoring.{Scoring}
 use Rattle.diagnosis.specs.Rows.{weight, zone, ground, marked, surveyDay}
 use Rattle.diagnosis.specs.House.{InHouse, held, required, layout, higherBand, deterioration, scoreBefore, fullScore, leastScore, houseVerdict}
@@ -178,6 +178,17 @@ pub worsened-records :
     })
     × (_≡_ {A = List ℕ} (scoreAt 1 1 ∷ scoreAt 1 2 ∷ scoreAt 2 1 ∷ scoreAt 2 2 ∷ scoreAt 3 1 ∷ scoreAt 3 2 ∷ []) (0 ∷ 1 ∷ 2 ∷ 3 ∷ 4 ∷ 5 ∷ []))
 worsened-records = examples.worsened-records
+
+-- By the theorem on records, of the worst on the ground in X: 38 × 1,526,400,000,000 + 778,050,000,000 is what was divided.
+pub all-worse-divided :
+    (38 * 1_526_400_000_000 + 778_050_000_000 ≡ 1000 * held allWorse 1 1 * layout allWorse 1 1 * deterioration allWorse .upper)
+    × (778_050_000_000 < 1_526_400_000_000)
+    × (1_526_400_000_000 ≡ required allWorse 1 * deterioration allWorse .lower)
+    × (38 ≡ min 38 999)
+all-worse-divided =
+    let here : InHouse allWorse 1 1 = record { some-storey = omega arith; last-storey = omega arith; some-direction = omega arith; last-direction = omega arith } in
+    let scored : Scoring = record { outcome = Scored; result = recordOf allWorse } in
+    rw (worsened-records .2) at (record-divided allWorse (worsened .5 .worse .B-accepted) 1 1 here scored examples.all-worse-scored)
 
 -- The record of a house on which work started on the grant's last day says so, and a day later it does not.
 pub grants-last-day :

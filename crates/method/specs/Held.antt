@@ -101,6 +101,6 @@ unfoldable pub heldStrength : (ℕ → Bool) → (ℕ → ℕ) → ℕ → ℕ
 heldStrength takes share zero = 0
 heldStrength takes share (suc n) = heldStrength takes share n + cond (takes n) (share n) 0
 
--- 60,000 kN, which no storey's walls exceed. Where scores are computed, a held strength above this counts as this (`cappedScore`).
+-- 60,000 kN, which no storey's walls exceed. Where scores are computed, a held strength above this counts as this (`cappedQuotient`).
 abbrev pub mostHeld : ℕ
 mostHeld = 60_000_000_000

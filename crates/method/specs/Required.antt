@@ -62,6 +62,6 @@ unfoldable pub requiredStrength : House → HousePart → ℕ → ℕ
 requiredStrength house part narrow = perArea house part * part .area * house .zone * groundFactor (house .ground) * narrow
 
 -- 60,000 kN in this unit, more than a storey can need. Where scores are computed, a required strength above this counts as this
--- (`cappedScore`).
+-- (`cappedQuotient`).
 abbrev pub mostRequired : ℕ
 mostRequired = 1000 * mostHeld
