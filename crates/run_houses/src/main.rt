@@ -31,6 +31,13 @@ fn print_number(number: u64, after: &[u8]) {
     io::write_all(STDOUT_FILENO, after);
 }
 
+fn print_place(score: u32, hundredths: u64, remainder: u64, divisor: u64) {
+    print_number(score as u64, b" ");
+    print_number(hundredths, b" ");
+    print_number(remainder, b" ");
+    print_number(divisor, b"\n");
+}
+
 // Prints what a record says of each storey and direction. Where there is none, and of a refused table
 // anywhere, it has 0 alone, and nothing is printed; anything else would show as a line too many.
 fn print_record(record: Record) {
@@ -46,18 +53,10 @@ fn print_record(record: Record) {
         let remainder = remainders[at];
         let divisor = divisors[at];
         if at < count || 0 < score || 0 < whole || 0 < remainder || 0 < divisor {
-            print_number(score as u64, b" ");
-            print_number(whole, b" ");
-            print_number(remainder, b" ");
-            print_number(divisor, b"\n");
+            print_place(score, whole, remainder, divisor);
         }
         at += 1;
     }
-}
-
-fn print_table_record(table: &[u32]) {
-    let scoring = diagnosis::score(table);
-    print_record(scoring.result);
 }
 
 // Prints what the record of a sheet's table says. A sheet that is not read has no table.
@@ -69,7 +68,8 @@ fn print_sheet_record(sheet: &[u8]) {
             if MOST_NUMBERS < length {
                 return;
             }
-            print_table_record(&table[0..length]);
+            let scoring = diagnosis::score(&table[0..length]);
+            print_record(scoring.result);
         }
         Answer::Refused { .. } => (),
     }
