@@ -4,7 +4,7 @@ mod common;
 
 use std::fs;
 
-use girderbasil_host::answers::Refusal;
+use girderbasil_host::answers::{Record, Refusal};
 use girderbasil_host::model::{self, sheet};
 use girderbasil_host::random::house;
 use girderbasil_host::{MOST_REPORT_BYTES, MOST_ROWS, ROW};
@@ -19,6 +19,15 @@ const LEAST_OF_EACH: usize = 3;
 fn answer(sheet: &[u8], lent: usize) -> Result<usize, Refusal> {
     let table = model::read(sheet, MOST_ROWS * ROW)?;
     Ok(model::write_report(&table, lent)?.len())
+}
+
+/// What the program prints of a record, a line for each score: score, whole hundredths, remainder, divisor.
+fn print_record(record: &Record, printed: &mut Vec<u8>) {
+    for at in 0..record.count as usize {
+        let (score, hundredths) = (record.scores[at], record.hundredths[at]);
+        let (remainder, divisor) = (record.remainders[at], record.divisors[at]);
+        printed.extend(format!("{score} {hundredths} {remainder} {divisor}\n").bytes());
+    }
 }
 
 /// An answer as the program prints it: number, row, column, count.
@@ -43,6 +52,7 @@ fn the_model_prints_what_is_expected_of_the_program() {
         printed.extend(model::diagnose(&sheet));
         if let Ok(count) = answer(&sheet, MOST_REPORT_BYTES) {
             let table = model::read(&sheet, MOST_ROWS * ROW).expect("it was scored");
+            print_record(&model::score(&table).expect("it was scored"), &mut printed);
             snow[house::snow_of(&table)] += 1;
             let dates = model::judge(&table).expect("it was scored").dates;
             ages[dates.age() as usize - 1] += 1;
