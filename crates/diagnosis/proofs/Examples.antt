@@ -36,12 +36,12 @@ use Rattle.diagnosis.specs.House.{inDirection, solidAtEnd, held, endHeld
 use Rattle.diagnosis.specs.declared.held.HeldSums.{HeldSums}
 use Rattle.diagnosis.specs.declared.scores.Outcome.the-variants.{Scored, Refused}
 use Rattle.diagnosis.specs.Internal.{heldSums}
-use Rattle.diagnosis.specs.Answers.{toldOutcome, sixNumbers, recordOf, scoring}
+use Rattle.diagnosis.specs.Answers.{toldOutcome, sixNumbers, noRecord, recordOf, scoring}
 use Rattle.diagnosis.specs.Comparison.{scoreAt}
 use Rattle.diagnosis.specs.Report.{resultRows, reportRows, reportBytes, reporting, refusalLine}
 use Rattle.diagnosis.specs.Program.{mostNumbers, tableOf, diagnosing, afterDiagnosing, mostReportBytes, output}
 use Rattle.diagnosis.proofs.Assessments.{limited-score}
-use Rattle.diagnosis.specs.Worked.{p1Report, smallFloor, withParts, withMiddleWall, onTheGround, p10, underTenDay, tenDay, sound, heavy, zone100, softGround, overTen, moreMarks, allWorse, startedOn, underSnow, snowySound, snowyWorse, weakJoints, figures, sameBands}
+use Rattle.diagnosis.specs.Worked.{p1Report, p1Record, soundRecord, allWorseRecord, smallFloor, withParts, withMiddleWall, onTheGround, p10, underTenDay, tenDay, sound, heavy, zone100, softGround, overTen, moreMarks, allWorse, startedOn, underSnow, snowySound, snowyWorse, weakJoints, figures, sameBands}
 
 -- P1's sheet can be read, and is P1's table.
 p1-read : reading p1Sheet mostNumbers ≡ counted 12
@@ -373,15 +373,7 @@ p1-quotients : (fullQuotient p1 1 1 ≡ three 47 352_000_000_000 384_000_000_000
 unfolding p1-scores quotientWith
 p1-quotients = (rw p1-walls, rw p1-walls)
 
-p1-record : recordOf p1 ≡ record {
-  scores = 47 ∷ 83 ∷ 0 ∷ 0 ∷ 0 ∷ 0 ∷ [];
-  count = 2;
-  verdict = 4;
-  started_by_31_may_1981 = 1;
-  hundredths = 47 ∷ 83 ∷ 0 ∷ 0 ∷ 0 ∷ 0 ∷ [];
-  remainders = 352_000_000_000 ∷ 128_000_000_000 ∷ 0 ∷ 0 ∷ 0 ∷ 0 ∷ [];
-  divisors = 384_000_000_000 ∷ 384_000_000_000 ∷ 0 ∷ 0 ∷ 0 ∷ 0 ∷ [];
-}
+p1-record : recordOf p1 ≡ p1Record
 unfolding recordOf sixNumbers joined over houseVerdict leastScore scores leastOf verdict startedBy31May1981 wallRows first
 p1-record = rw (← limited-score, ← limited-score, p1-quotients .0, p1-quotients .1)
 
@@ -404,33 +396,9 @@ module _ (house : List ℕ) (two-storeys : storeys house ≡ 2) {one two three f
 
 -- The records of P1 and of the best and the worst of them, and where a record has the score of a storey and direction.
 pub worsened-records :
-    (recordOf p1 ≡ record {
-      scores = 47 ∷ 83 ∷ 0 ∷ 0 ∷ 0 ∷ 0 ∷ [];
-      count = 2;
-      verdict = 4;
-      started_by_31_may_1981 = 1;
-      hundredths = 47 ∷ 83 ∷ 0 ∷ 0 ∷ 0 ∷ 0 ∷ [];
-      remainders = 352_000_000_000 ∷ 128_000_000_000 ∷ 0 ∷ 0 ∷ 0 ∷ 0 ∷ [];
-      divisors = 384_000_000_000 ∷ 384_000_000_000 ∷ 0 ∷ 0 ∷ 0 ∷ 0 ∷ [];
-    })
-    × (recordOf sound ≡ record {
-      scores = 131 ∷ 200 ∷ 350 ∷ 250 ∷ 0 ∷ 0 ∷ [];
-      count = 4;
-      verdict = 2;
-      started_by_31_may_1981 = 0;
-      hundredths = 131 ∷ 200 ∷ 350 ∷ 250 ∷ 0 ∷ 0 ∷ [];
-      remainders = 23_220_000_000 ∷ 24_000_000_000 ∷ 3_500_000_000 ∷ 2_500_000_000 ∷ 0 ∷ 0 ∷ [];
-      divisors = 29_880_000_000 ∷ 29_880_000_000 ∷ 9_990_000_000 ∷ 9_990_000_000 ∷ 0 ∷ 0 ∷ [];
-    })
-    × (recordOf allWorse ≡ record {
-      scores = 38 ∷ 74 ∷ 116 ∷ 82 ∷ 0 ∷ 0 ∷ [];
-      count = 4;
-      verdict = 4;
-      started_by_31_may_1981 = 0;
-      hundredths = 38 ∷ 74 ∷ 116 ∷ 82 ∷ 0 ∷ 0 ∷ [];
-      remainders = 778_050_000_000 ∷ 1_046_400_000_000 ∷ 101_600_000_000 ∷ 563_200_000_000 ∷ 0 ∷ 0 ∷ [];
-      divisors = 1_526_400_000_000 ∷ 1_526_400_000_000 ∷ 572_400_000_000 ∷ 572_400_000_000 ∷ 0 ∷ 0 ∷ [];
-    })
+    (recordOf p1 ≡ p1Record)
+    × (recordOf sound ≡ soundRecord)
+    × (recordOf allWorse ≡ allWorseRecord)
     × (_≡_ {A = List ℕ} (scoreAt 1 1 ∷ scoreAt 1 2 ∷ scoreAt 2 1 ∷ scoreAt 2 2 ∷ scoreAt 3 1 ∷ scoreAt 3 2 ∷ []) (0 ∷ 1 ∷ 2 ∷ 3 ∷ 4 ∷ 5 ∷ []))
 unfolding leastOf verdict startedBy31May1981 wallRows first
 worsened-records = (p1-record, by-quotients sound refl sound-quotients, by-quotients allWorse refl all-worse-quotients, refl)
@@ -451,16 +419,6 @@ pub grants-last-day :
 unfolding scoring recordOf startedBy31May1981 wallRows first
 grants-last-day = (rw (started-judged .0), rw (started-judged .1))
 
-pub refused-record :
-    scoring (set p1 6 2)
-    ≡ toldOutcome (Refused 4 1 7) (record {
-      scores = 0 ∷ 0 ∷ 0 ∷ 0 ∷ 0 ∷ 0 ∷ [];
-      count = 0;
-      verdict = 0;
-      started_by_31_may_1981 = 0;
-      hundredths = 0 ∷ 0 ∷ 0 ∷ 0 ∷ 0 ∷ 0 ∷ [];
-      remainders = 0 ∷ 0 ∷ 0 ∷ 0 ∷ 0 ∷ 0 ∷ [];
-      divisors = 0 ∷ 0 ∷ 0 ∷ 0 ∷ 0 ∷ 0 ∷ [];
-    })
+pub refused-record : scoring (set p1 6 2) ≡ toldOutcome (Refused 4 1 7) noRecord
 unfolding scoring
 refused-record = rw (started-judged .2)

@@ -25,7 +25,7 @@ use Rattle.diagnosis.specs.Answers.{toldOutcome, toldScoring, recordOf, 
 use Rattle.diagnosis.specs.Report.{reportRows, reportLines, reportBytes, reporting}
 use Rattle.diagnosis.specs.Program.{tableOf, diagnosing, afterDiagnosing, mostReportBytes, output}
 use Rattle.diagnosis.specs.Comparison.{mayDiffer, NoLower, SameOrWorse, BandKept, scoreAt, NoBetter, Applies}
-use Rattle.diagnosis.specs.Worked.{p1Report, smallFloor, withParts, withMiddleWall, onTheGround, p10, sound, heavy, zone100, softGround, overTen, moreMarks, allWorse, startedOn, underSnow, snowySound, snowyWorse, weakJoints, figures, sameBands}
+use Rattle.diagnosis.specs.Worked.{p1Report, p1Record, soundRecord, allWorseRecord, smallFloor, withParts, withMiddleWall, onTheGround, p10, sound, heavy, zone100, softGround, overTen, moreMarks, allWorse, startedOn, underSnow, snowySound, snowyWorse, weakJoints, figures, sameBands}
 use Rattle.diagnosis.proofs.ScoreLists as score-lists
 use Rattle.diagnosis.proofs.RecordNumbers as record-numbers
 use Rattle.diagnosis.proofs.ReportNumbers as report-numbers
@@ -149,33 +149,9 @@ worsened-figures = (
 -- The verdict goes from 2 to 4, as the theorem says that it gets no better. The first record is P1's, on which work started by 31 May 1981. These are
 -- the places of a record.
 pub worsened-records :
-    (recordOf p1 ≡ record {
-      scores = 47 ∷ 83 ∷ 0 ∷ 0 ∷ 0 ∷ 0 ∷ [];
-      count = 2;
-      verdict = 4;
-      started_by_31_may_1981 = 1;
-      hundredths = 47 ∷ 83 ∷ 0 ∷ 0 ∷ 0 ∷ 0 ∷ [];
-      remainders = 352_000_000_000 ∷ 128_000_000_000 ∷ 0 ∷ 0 ∷ 0 ∷ 0 ∷ [];
-      divisors = 384_000_000_000 ∷ 384_000_000_000 ∷ 0 ∷ 0 ∷ 0 ∷ 0 ∷ [];
-    })
-    × (recordOf sound ≡ record {
-      scores = 131 ∷ 200 ∷ 350 ∷ 250 ∷ 0 ∷ 0 ∷ [];
-      count = 4;
-      verdict = 2;
-      started_by_31_may_1981 = 0;
-      hundredths = 131 ∷ 200 ∷ 350 ∷ 250 ∷ 0 ∷ 0 ∷ [];
-      remainders = 23_220_000_000 ∷ 24_000_000_000 ∷ 3_500_000_000 ∷ 2_500_000_000 ∷ 0 ∷ 0 ∷ [];
-      divisors = 29_880_000_000 ∷ 29_880_000_000 ∷ 9_990_000_000 ∷ 9_990_000_000 ∷ 0 ∷ 0 ∷ [];
-    })
-    × (recordOf allWorse ≡ record {
-      scores = 38 ∷ 74 ∷ 116 ∷ 82 ∷ 0 ∷ 0 ∷ [];
-      count = 4;
-      verdict = 4;
-      started_by_31_may_1981 = 0;
-      hundredths = 38 ∷ 74 ∷ 116 ∷ 82 ∷ 0 ∷ 0 ∷ [];
-      remainders = 778_050_000_000 ∷ 1_046_400_000_000 ∷ 101_600_000_000 ∷ 563_200_000_000 ∷ 0 ∷ 0 ∷ [];
-      divisors = 1_526_400_000_000 ∷ 1_526_400_000_000 ∷ 572_400_000_000 ∷ 572_400_000_000 ∷ 0 ∷ 0 ∷ [];
-    })
+    (recordOf p1 ≡ p1Record)
+    × (recordOf sound ≡ soundRecord)
+    × (recordOf allWorse ≡ allWorseRecord)
     × (_≡_ {A = List ℕ} (scoreAt 1 1 ∷ scoreAt 1 2 ∷ scoreAt 2 1 ∷ scoreAt 2 2 ∷ scoreAt 3 1 ∷ scoreAt 3 2 ∷ []) (0 ∷ 1 ∷ 2 ∷ 3 ∷ 4 ∷ 5 ∷ []))
 worsened-records = examples.worsened-records
 

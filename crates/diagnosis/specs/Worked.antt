@@ -4,6 +4,7 @@ use Prim.Native.Nat.{ℕ}
 use lib.ListN.{getD, set}
 use Rattle.answer.specs.Text.{bytes}
 use Rattle.answer.specs.Houses.{p1, twoStoreys}
+use Rattle.diagnosis.specs.declared.scores.Record.{Record}
 use Rattle.diagnosis.specs.Rows.{snowColumn}
 use Rattle.diagnosis.specs.House.{higherBand, scoreBefore, scores}
 use Rattle.diagnosis.specs.Answers.{scoring}
@@ -14,6 +15,18 @@ p1Report =
     bytes "       6       1       1     920    1600     100      83      47\n"
     ++ bytes "       6       1       2    1600    1600     100      83      83\n"
     ++ bytes "       7       4      47       0       0       0       0       0\n"
+
+-- Its record.
+abbrev pub p1Record : Record
+p1Record = record {
+  scores = 47 ∷ 83 ∷ 0 ∷ 0 ∷ 0 ∷ 0 ∷ [];
+  count = 2;
+  verdict = 4;
+  started_by_31_may_1981 = 1;
+  hundredths = 47 ∷ 83 ∷ 0 ∷ 0 ∷ 0 ∷ 0 ∷ [];
+  remainders = 352_000_000_000 ∷ 128_000_000_000 ∷ 0 ∷ 0 ∷ 0 ∷ 0 ∷ [];
+  divisors = 384_000_000_000 ∷ 384_000_000_000 ∷ 0 ∷ 0 ∷ 0 ∷ 0 ∷ [];
+}
 
 -- P1's house with 0.4 m² of floor and ends of 0.1 m² each, so that its scores would be above 999;
 abbrev pub smallFloor : List ℕ
@@ -84,6 +97,29 @@ moreMarks = twoStoreys 1 90 1 underTenDay 2056
 -- and in all of them.
 abbrev pub allWorse : List ℕ
 allWorse = twoStoreys 2 100 2 tenDay 2056
+
+-- The records of the first and the last of them.
+abbrev pub soundRecord : Record
+soundRecord = record {
+  scores = 131 ∷ 200 ∷ 350 ∷ 250 ∷ 0 ∷ 0 ∷ [];
+  count = 4;
+  verdict = 2;
+  started_by_31_may_1981 = 0;
+  hundredths = 131 ∷ 200 ∷ 350 ∷ 250 ∷ 0 ∷ 0 ∷ [];
+  remainders = 23_220_000_000 ∷ 24_000_000_000 ∷ 3_500_000_000 ∷ 2_500_000_000 ∷ 0 ∷ 0 ∷ [];
+  divisors = 29_880_000_000 ∷ 29_880_000_000 ∷ 9_990_000_000 ∷ 9_990_000_000 ∷ 0 ∷ 0 ∷ [];
+}
+
+abbrev pub allWorseRecord : Record
+allWorseRecord = record {
+  scores = 38 ∷ 74 ∷ 116 ∷ 82 ∷ 0 ∷ 0 ∷ [];
+  count = 4;
+  verdict = 4;
+  started_by_31_may_1981 = 0;
+  hundredths = 38 ∷ 74 ∷ 116 ∷ 82 ∷ 0 ∷ 0 ∷ [];
+  remainders = 778_050_000_000 ∷ 1_046_400_000_000 ∷ 101_600_000_000 ∷ 563_200_000_000 ∷ 0 ∷ 0 ∷ [];
+  divisors = 1_526_400_000_000 ∷ 1_526_400_000_000 ∷ 572_400_000_000 ∷ 572_400_000_000 ∷ 0 ∷ 0 ∷ [];
+}
 
 -- The sound house, by the day on which work started.
 abbrev pub startedOn : ℕ → List ℕ
