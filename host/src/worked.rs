@@ -1,6 +1,7 @@
 //! Houses worked through in the papers: document 01's P1 and P10, and the manual's. Beside them P1 and another house
 //! under snow, P1 with other dates, and two sheets that are refused.
 
+use crate::answers::Record;
 use crate::{FIELD, LINE, ROW};
 
 /// P1's table, with the dates row that document 02 asks for; the other worked houses of document 01 are changes of it.
@@ -29,6 +30,18 @@ pub const REPORT: &str = concat!(
     "       6       1       2    1600    1600     100      83      83\n",
     "       7       4      47       0       0       0       0       0\n",
 );
+
+/// P1's record. In X what was divided is 1,000 × 9,200,000 × 100 × 20, in Y 1,000 × 16,000,000 × 100 × 20; the divisor is
+/// the 16 kN required, 16,000,000,000, × 24 points.
+pub const RECORD: Record = Record {
+    scores: [47, 83, 0, 0, 0, 0],
+    count: 2,
+    verdict: 4,
+    started_by_31_may_1981: 1,
+    hundredths: [47, 83, 0, 0, 0, 0],
+    remainders: [352_000_000_000, 128_000_000_000, 0, 0, 0, 0],
+    divisors: [384_000_000_000, 384_000_000_000, 0, 0, 0, 0],
+};
 
 /// P1's table under snow.
 pub const fn in_snow(snow: u32) -> [u32; 96] {
