@@ -86,7 +86,7 @@ pub fn most_hundredths() -> Vec<u32> {
 }
 
 /// Houses with their records, whose remainders are worked out by hand.
-pub fn with_records() -> [(&'static str, Vec<u32>, Record); 7] {
+pub fn with_records() -> [(&'static str, Vec<u32>, Record); 8] {
     [
         ("P1", TABLE.to_vec(), RECORD),
         // What is divided stays, and the divisor is a hundredth of P1's.
@@ -137,6 +137,16 @@ pub fn with_records() -> [(&'static str, Vec<u32>, Record); 7] {
                 4,
                 (40, [40, 40_000_000_000, 160_000_000_000]),
                 (70, [70, 0, 160_000_000_000]),
+            ),
+        ),
+        // Layout is 70 in X: 163,800,000,000 and 1,600,000,000,000 by 14,400,000,000 × 1.
+        (
+            "P10 in zone 90",
+            better_end_falls(90).to_vec(),
+            one_storey(
+                4,
+                (11, [11, 5_400_000_000, 14_400_000_000]),
+                (111, [111, 1_600_000_000, 14_400_000_000]),
             ),
         ),
         // 300 walls hold 60,000,000,000, and 28 × 2 × 70 × 10 × 100, or 3,920,000, is required. So 6,000,000,000,000,000
