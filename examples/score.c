@@ -8,6 +8,7 @@
  * Exit status: 0 the house is scored, 1 its sheet is refused, 2 the file can't be read, 3 the report or the line
  * can't be printed.
  */
+#include <inttypes.h>
 #include <stdio.h>
 
 #include "girderbasil.h"
@@ -56,16 +57,20 @@ int main(int argc, char **argv)
     if (read.number != 0)
         return 1;
 
-    /* From numbers to scores, in hundredths: two a storey, X before Y. */
+    /* From numbers to scores, in hundredths: two a storey, X before Y. Beside each the record has its whole hundredths
+     * without the limit of 9.99, what was left over, and what was divided by. */
     scoring = girderbasil_score(table, (size_t)read.count * GIRDERBASIL_ROW);
     if (scoring.number != 0)
         return 1;
     for (each = 0; each < scoring.count; each++)
-        fprintf(stderr, "storey %u, direction %c: %u.%02u\n", (unsigned)(each / 2 + 1), "XY"[each % 2],
-                (unsigned)(scoring.scores[each] / 100), (unsigned)(scoring.scores[each] % 100));
+        fprintf(stderr,
+                "storey %u, direction %c: %u.%02u (%" PRIu64 " hundredths, remainder %" PRIu64 ", divisor %" PRIu64 ")\n",
+                (unsigned)(each / 2 + 1), "XY"[each % 2], (unsigned)(scoring.scores[each] / 100),
+                (unsigned)(scoring.scores[each] % 100), scoring.hundredths[each], scoring.remainders[each],
+                scoring.divisors[each]);
     fprintf(stderr, "verdict %u\n", (unsigned)scoring.verdict);
 
-    /* The record says one thing more, which is not in the report. */
+    /* The record says one thing more. Neither this nor what was left over is in the report. */
     fprintf(stderr, "work started %s\n", scoring.started_by_31_may_1981 ? "by 31 May 1981" : "after 31 May 1981");
     return 0;
 }

@@ -62,15 +62,26 @@ typedef struct {
     uint32_t count; /* rows read or bytes written; 0 where refused */
 } girderbasil_answer;
 
-/* A record or a refusal. */
+/* A record or a refusal. What has six places goes ground storey X, ground storey Y, next storey X, ..; unused places
+ * are 0.
+ *
+ * The last three fields tell what a score is rounded down from: hundredths * divisor + remainder is what was divided,
+ * 1000 * held * layout * the upper number of the deterioration fraction, with what is held in 0.000001 kN and the
+ * layout factor in hundredths. It fits into 64 bits for every house. The divisor is what is required, in
+ * 0.000000001 kN, times the lower number of that fraction, which is not reduced: 1 where no mark counts, 10 where the
+ * fraction is under 7/10, else the points of the parts present.
+ */
 typedef struct {
     uint32_t number; /* 0 where scored, else the refusal's number; then the record is all 0 */
     uint32_t row;
     uint32_t column;
-    uint32_t scores[6]; /* in hundredths; ground storey X, ground storey Y, next storey X, ..; unused ones 0 */
+    uint32_t scores[6]; /* in hundredths, at most 999 */
     uint32_t count;     /* how many scores there are: two a storey */
     uint32_t verdict;   /* 1 to 4 */
     uint32_t started_by_31_may_1981; /* 1 where work on the house started on that day or before; else 0 */
+    uint64_t hundredths[6]; /* the whole hundredths of each score, without its limit of 999 */
+    uint64_t remainders[6]; /* what was left over, smaller than the divisor */
+    uint64_t divisors[6];
 } girderbasil_scoring;
 
 /* What the scoring program prints for a sheet. */
@@ -96,7 +107,7 @@ girderbasil_assert(offsetof(girderbasil_answer, number) == 0);
 girderbasil_assert(offsetof(girderbasil_answer, row) == 4);
 girderbasil_assert(offsetof(girderbasil_answer, column) == 8);
 girderbasil_assert(offsetof(girderbasil_answer, count) == 12);
-girderbasil_assert(sizeof(girderbasil_scoring) == 48);
+girderbasil_assert(sizeof(girderbasil_scoring) == 192);
 girderbasil_assert(offsetof(girderbasil_scoring, number) == 0);
 girderbasil_assert(offsetof(girderbasil_scoring, row) == 4);
 girderbasil_assert(offsetof(girderbasil_scoring, column) == 8);
@@ -104,6 +115,9 @@ girderbasil_assert(offsetof(girderbasil_scoring, scores) == 12);
 girderbasil_assert(offsetof(girderbasil_scoring, count) == 36);
 girderbasil_assert(offsetof(girderbasil_scoring, verdict) == 40);
 girderbasil_assert(offsetof(girderbasil_scoring, started_by_31_may_1981) == 44);
+girderbasil_assert(offsetof(girderbasil_scoring, hundredths) == 48);
+girderbasil_assert(offsetof(girderbasil_scoring, remainders) == 96);
+girderbasil_assert(offsetof(girderbasil_scoring, divisors) == 144);
 girderbasil_assert(sizeof(girderbasil_output) == 472);
 girderbasil_assert(offsetof(girderbasil_output, number) == 0);
 girderbasil_assert(offsetof(girderbasil_output, row) == 4);

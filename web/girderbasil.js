@@ -26,7 +26,7 @@ export const MOST_REPORT_BYTES = 7 * LINE;
 export const LAYOUTS = Object.freeze({
     girderbasil_answer: Object.freeze({ size: 16, number: 0, row: 4, column: 8, count: 12 }),
     girderbasil_scoring: Object.freeze({
-        size: 48,
+        size: 192,
         number: 0,
         row: 4,
         column: 8,
@@ -34,6 +34,9 @@ export const LAYOUTS = Object.freeze({
         count: 36,
         verdict: 40,
         started_by_31_may_1981: 44,
+        hundredths: 48,
+        remainders: 96,
+        divisors: 144,
     }),
     girderbasil_output: Object.freeze({ size: 472, number: 0, row: 4, column: 8, count: 12, bytes: 16 }),
 });
@@ -48,15 +51,20 @@ export const LAYOUTS = Object.freeze({
  */
 
 /**
- * A record or a refusal.
+ * A record or a refusal. What has six places goes ground storey X, ground storey Y, next storey X, ..; unused places are 0.
+ * For each score, `hundredths * divisor + remainder` is what was divided, as the header has it. That can be more than a
+ * number holds exactly, so these three are of type `bigint`.
  * @typedef {object} Scoring
  * @property {number} number 0 where scored, else the refusal's number; then the record is all 0
  * @property {number} row
  * @property {number} column
- * @property {number[]} scores six, in hundredths; ground storey X, ground storey Y, next storey X, ..; unused ones 0
+ * @property {number[]} scores in hundredths, at most 999
  * @property {number} count how many scores there are: two a storey
  * @property {number} verdict 1 to 4
  * @property {number} startedBy31May1981 1 where work on the house started on that day or before; else 0
+ * @property {bigint[]} hundredths the whole hundredths of each score, without its limit of 999
+ * @property {bigint[]} remainders what was left over, smaller than the divisor
+ * @property {bigint[]} divisors
  */
 
 /**
@@ -76,6 +84,8 @@ const ANSWER = Math.max(...Object.values(LAYOUTS).map((layout) => layout.size));
 /** The functions of the header. */
 const FUNCTIONS = ["girderbasil_read", "girderbasil_score", "girderbasil_write_report", "girderbasil_diagnose"];
 const PAGE = 65536;
+/** The places of a record's scores. */
+const PLACES = [0, 1, 2, 3, 4, 5];
 
 /**
  * Makes the library ready.
@@ -232,6 +242,15 @@ function numberAt(view, offset = 0) {
 }
 
 /**
+ * The numbers of 64 bits that stand beside the scores.
+ * @param {DataView} view
+ * @param {number} offset
+ */
+function bigintsAt(view, offset) {
+    return PLACES.map((each) => view.getBigUint64(offset + 8 * each, true));
+}
+
+/**
  * @param {DataView} view
  * @returns {Answer}
  */
@@ -248,10 +267,13 @@ function scoringAt(view) {
     const layout = LAYOUTS.girderbasil_scoring;
     return {
         ...refusalAt(view, layout),
-        scores: [0, 1, 2, 3, 4, 5].map((each) => numberAt(view, layout.scores + 4 * each)),
+        scores: PLACES.map((each) => numberAt(view, layout.scores + 4 * each)),
         count: numberAt(view, layout.count),
         verdict: numberAt(view, layout.verdict),
         startedBy31May1981: numberAt(view, layout.started_by_31_may_1981),
+        hundredths: bigintsAt(view, layout.hundredths),
+        remainders: bigintsAt(view, layout.remainders),
+        divisors: bigintsAt(view, layout.divisors),
     };
 }
 

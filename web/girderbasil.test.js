@@ -20,6 +20,21 @@ const report =
 
 const text = (bytes) => new TextDecoder().decode(bytes);
 
+// The fields of 64 bits that a record has for the two scores of one storey.
+function leftOver(hundredths, remainders, divisors) {
+    const six = (numbers) => [...numbers, 0n, 0n, 0n, 0n];
+    return { hundredths: six(hundredths), remainders: six(remainders), divisors: six(divisors) };
+}
+
+// P1's record.
+const record = {
+    scores: [47, 83, 0, 0, 0, 0],
+    count: 2,
+    verdict: 4,
+    startedBy31May1981: 1,
+    ...leftOver([47n, 83n], [352000000000n, 128000000000n], [384000000000n, 384000000000n]),
+};
+
 // The table that a sheet has.
 function tableOf(bytes) {
     const table = new Uint32Array(MOST_ROWS * ROW);
@@ -35,8 +50,7 @@ test("P1 is read, scored, reported and diagnosed", () => {
     assert.ok(table.subarray(96).every((number) => number === 7));
 
     const house = table.subarray(0, 96);
-    const scores = [47, 83, 0, 0, 0, 0];
-    assert.deepEqual(library.score(house), { ...accepted, scores, count: 2, verdict: 4, startedBy31May1981: 1 });
+    assert.deepEqual(library.score(house), { ...accepted, ...record });
 
     const bytes = new Uint8Array(200).fill(7);
     assert.deepEqual(library.writeReport(house, bytes), { ...accepted, count: 195 });
@@ -57,6 +71,44 @@ test("the record says whether work started by 31 May 1981, on that day too", () 
     }
 });
 
+// P1 on a hundredth of its area.
+function small() {
+    const house = tableOf(sheet).slice();
+    house[10] = 40;
+    for (const ends of [19, 27]) house.set([10, 10], ends);
+    return house;
+}
+
+test("a score at its limit has its own whole hundredths beside it", () => {
+    assert.deepEqual(library.score(small()), {
+        ...accepted,
+        ...record,
+        scores: [999, 999, 0, 0, 0, 0],
+        verdict: 1,
+        ...leftOver([4791n, 8333n], [2560000000n, 1280000000n], [3840000000n, 3840000000n]),
+    });
+});
+
+// What is divided is 1,000 times what is held, in 0.000001 kN, times 100 for layout and 20 for the points that are sound. With
+// 300 walls of 200 kN that is more than a number of JavaScript holds exactly.
+test("hundredths, remainder and divisor give back what was divided", () => {
+    const p1 = [...tableOf(sheet)];
+    const walls = Array(300).fill([4, 1, 1, 2, 100, 20000, 1, 1]);
+    const strong = Uint32Array.from([...p1.slice(0, 32), ...walls.flat(), ...p1.slice(80)]);
+    for (const [house, held] of [
+        [tableOf(sheet), [9200000n, 16000000n]],
+        [small(), [9200000n, 16000000n]],
+        [strong, [60000000000n, 0n]],
+    ]) {
+        const { scores, hundredths, remainders, divisors } = library.score(house);
+        for (const each of [0, 1]) {
+            assert.equal(hundredths[each] * divisors[each] + remainders[each], 1000n * held[each] * 100n * 20n);
+            assert.ok(remainders[each] < divisors[each]);
+            assert.equal(scores[each], Math.min(Number(hundredths[each]), 999));
+        }
+    }
+});
+
 test("a refusal has its number and place, and changes nothing that was lent", () => {
     const table = new Uint32Array(96).fill(7);
     const misprinted = sheet.slice();
@@ -70,7 +122,8 @@ test("a refusal has its number and place, and changes nothing that was lent", ()
     const bytes = new Uint8Array(MOST_REPORT_BYTES).fill(7);
     const place = { number: 6, row: 3, column: 4 };
     const nothing = { scores: [0, 0, 0, 0, 0, 0], count: 0, verdict: 0, startedBy31May1981: 0 };
-    assert.deepEqual(library.score(house), { ...place, ...nothing });
+    const none = leftOver([0n, 0n], [0n, 0n], [0n, 0n]);
+    assert.deepEqual(library.score(house), { ...place, ...nothing, ...none });
     assert.deepEqual(library.writeReport(house, bytes), { ...place, count: 0 });
     const short = library.writeReport(tableOf(sheet), bytes.subarray(0, 194));
     assert.deepEqual(short, { number: 9, row: 0, column: 0, count: 0 });
@@ -103,7 +156,7 @@ test("an answer is its owner's: a later call leaves it alone", () => {
     library.diagnose(refused);
     library.score(tableOf(refused));
     assert.equal(text(output.bytes.subarray(0, 195)), report);
-    assert.deepEqual(scoring.scores, [47, 83, 0, 0, 0, 0]);
+    assert.deepEqual(scoring, { ...accepted, ...record });
 });
 
 test("memory grows with what is given and what is lent", async () => {

@@ -37,13 +37,18 @@ impl Refusal {
     }
 }
 
-/// Up to six scores in hundredths, ground storey first and X before Y, with their count and the verdict; and whether work
-/// on the house started by 31 May 1981, the grant's last day.
-#[derive(Debug, Clone, Copy, PartialEq, Eq)]
+/// Up to six scores in hundredths, ground storey first and X before Y, with their count and the verdict; whether work on
+/// the house started by 31 May 1981, the grant's last day; and each score before its limit of 999, with what was left over.
+#[derive(Debug, Clone, Copy, Default, PartialEq, Eq)]
 pub struct Record {
     pub scores: [u32; 6],
     pub count: u32,
     pub verdict: u32,
     /// 1 where it started on that day or before; else 0.
     pub started_by_31_may_1981: u32,
+    /// Before the limit, in the order of the scores: hundredths × divisor + remainder is what was divided, and the remainder
+    /// is smaller than the divisor.
+    pub hundredths: [u64; 6],
+    pub remainders: [u64; 6],
+    pub divisors: [u64; 6],
 }

@@ -30,6 +30,9 @@ pub mod raw {
         pub count: u32,
         pub verdict: u32,
         pub started_by_31_may_1981: u32,
+        pub hundredths: [u64; 6],
+        pub remainders: [u64; 6],
+        pub divisors: [u64; 6],
     }
 
     /// `girderbasil_output`: what the scoring program prints, with the refusal that it tells.
@@ -80,6 +83,9 @@ pub fn score(table: &[u32]) -> Result<Record, Refusal> {
         count: scoring.count,
         verdict: scoring.verdict,
         started_by_31_may_1981: scoring.started_by_31_may_1981,
+        hundredths: scoring.hundredths,
+        remainders: scoring.remainders,
+        divisors: scoring.divisors,
     })
 }
 

@@ -1,7 +1,8 @@
 //! Houses worked through in the papers: document 01's P1 and P10, and the manual's. Beside them P1 and another house
-//! under snow, P1 with other dates, and two sheets that are refused.
+//! under snow, P1 with other dates, houses whose records are worked out by hand, and two sheets that are refused.
 
-use crate::{FIELD, LINE, ROW};
+use crate::answers::Record;
+use crate::{FIELD, LINE, MOST_WALLS, ROW};
 
 /// P1's table, with the dates row that document 02 asks for; the other worked houses of document 01 are changes of it.
 #[rustfmt::skip]
@@ -29,6 +30,138 @@ pub const REPORT: &str = concat!(
     "       6       1       2    1600    1600     100      83      83\n",
     "       7       4      47       0       0       0       0       0\n",
 );
+
+/// P1's record. It holds 9.2 kN in X and 16 kN in Y, with 20 of 24 points and 100 for layout, so what was divided is
+/// 18,400,000,000,000 in X and 32,000,000,000,000 in Y; the divisor is the 16 kN required, 16,000,000,000, times 24.
+pub const RECORD: Record = one_storey(
+    4,
+    (47, [47, 352_000_000_000, 384_000_000_000]),
+    (83, [83, 128_000_000_000, 384_000_000_000]),
+);
+
+/// The record of a house of one storey on which work started by 31 May 1981: its verdict, and for X and for Y the score
+/// with its whole hundredths, its remainder and its divisor.
+const fn one_storey(verdict: u32, x: (u32, [u64; 3]), y: (u32, [u64; 3])) -> Record {
+    Record {
+        scores: [x.0, y.0, 0, 0, 0, 0],
+        count: 2,
+        verdict,
+        started_by_31_may_1981: 1,
+        hundredths: [x.1[0], y.1[0], 0, 0, 0, 0],
+        remainders: [x.1[1], y.1[1], 0, 0, 0, 0],
+        divisors: [x.1[2], y.1[2], 0, 0, 0, 0],
+    }
+}
+
+/// P1's table with some of its numbers changed: (row, column, number), counted from 1.
+pub fn changed(changes: &[(usize, usize, u32)]) -> Vec<u32> {
+    let mut table = TABLE.to_vec();
+    for &(row, column, number) in changes {
+        table[(row - 1) * ROW + column - 1] = number;
+    }
+    table
+}
+
+/// P1 on a hundredth of its area: both scores are far over their limit.
+pub fn small() -> Vec<u32> {
+    changed(&[(2, 3, 40), (3, 4, 10), (3, 5, 10), (4, 4, 10), (4, 5, 10)])
+}
+
+/// The house with the most hundredths that there are. It requires the least: light, in zone 70, on ordinary ground, with
+/// 0.02 m², which its two ends share. It holds the most, all in X: 300 walls of 20 m that hold 10 kN a metre.
+pub fn most_hundredths() -> Vec<u32> {
+    #[rustfmt::skip]
+    let mut table = vec![
+        1, 1, 1, 70, 1, 1, 0, 0,
+        2, 1, 2, 4000, 1, 0, 0, 0,
+        3, 1, 1, 1, 1, 1, 1, 0,
+        3, 1, 2, 1, 1, 1, 1, 0,
+    ];
+    for _ in 0..MOST_WALLS {
+        table.extend([4, 1, 1, 2, 100, 20_000, 1, 1]);
+    }
+    table.extend([5, 8191, 0, 0, 0, 0, 0, 0]);
+    table.extend(&TABLE[TABLE.len() - ROW..]);
+    table
+}
+
+/// Houses with their records, whose remainders are worked out by hand.
+pub fn with_records() -> [(&'static str, Vec<u32>, Record); 8] {
+    [
+        ("P1", TABLE.to_vec(), RECORD),
+        // What is divided stays, and the divisor is a hundredth of P1's.
+        (
+            "P1 on a hundredth of its area",
+            small(),
+            one_storey(
+                1,
+                (999, [4_791, 2_560_000_000, 3_840_000_000]),
+                (999, [8_333, 1_280_000_000, 3_840_000_000]),
+            ),
+        ),
+        // 920,000,000,000 and 1,600,000,000,000 by 16,000,000,000 × 1.
+        (
+            "P1 without marks",
+            changed(&[(11, 3, 0)]),
+            one_storey(
+                4,
+                (57, [57, 8_000_000_000, 16_000_000_000]),
+                (100, [100, 0, 16_000_000_000]),
+            ),
+        ),
+        // A millimetre of 2.0 kN/m less: 1,599,800,000,000 in Y.
+        (
+            "P1 without marks, a millimetre short in Y",
+            changed(&[(11, 3, 0), (9, 6, 3_999)]),
+            one_storey(
+                4,
+                (57, [57, 8_000_000_000, 16_000_000_000]),
+                (99, [99, 15_800_000_000, 16_000_000_000]),
+            ),
+        ),
+        // 12,880,000,000,000 and 22,400,000,000,000 by 16,000,000,000 × 20.
+        (
+            "P1 with 14 of 20 points, which is 7/10 and not under it",
+            changed(&[(11, 2, 5_919), (11, 3, 7)]),
+            one_storey(
+                4,
+                (40, [40, 80_000_000_000, 320_000_000_000]),
+                (70, [70, 0, 320_000_000_000]),
+            ),
+        ),
+        // 6,440,000,000,000 and 11,200,000,000,000 by 16,000,000,000 × 10.
+        (
+            "P1 with 16 of 24 points, which is under 7/10",
+            changed(&[(11, 3, 11)]),
+            one_storey(
+                4,
+                (40, [40, 40_000_000_000, 160_000_000_000]),
+                (70, [70, 0, 160_000_000_000]),
+            ),
+        ),
+        // Layout is 70 in X: 163,800,000,000 and 1,600,000,000,000 by 14,400,000,000 × 1.
+        (
+            "P10 in zone 90",
+            better_end_falls(90).to_vec(),
+            one_storey(
+                4,
+                (11, [11, 5_400_000_000, 14_400_000_000]),
+                (111, [111, 1_600_000_000, 14_400_000_000]),
+            ),
+        ),
+        // 300 walls hold 60,000,000,000, and 28 × 2 × 70 × 10 × 100, or 3,920,000, is required. So 6,000,000,000,000,000
+        // is divided, which is 3,920,000 × 1,530,612,244 + 3,520,000.
+        (
+            "the most hundredths",
+            most_hundredths(),
+            one_storey(
+                4,
+                (999, [1_530_612_244, 3_520_000, 3_920_000]),
+                (0, [0, 0, 3_920_000]),
+            ),
+        ),
+    ]
+}
 
 /// P1's table under snow.
 pub const fn in_snow(snow: u32) -> [u32; 96] {

@@ -13,6 +13,7 @@ use std::ptr;
 use common::calls::{
     DATES_REFUSALS, Diagnose, NUMBERS, Read, Score, WriteReport, raw_answer, sheet_of,
 };
+use common::remainders::Scores;
 use girderbasil_host::answers::{Record, Refusal};
 use girderbasil_host::library::{self, raw};
 use girderbasil_host::model::{self, score::Diagnosis};
@@ -56,6 +57,7 @@ struct Tally {
     started_by_then: [usize; 2],
     /// By the lower band and the higher.
     bands: [[usize; 5]; 5],
+    scores: Scores,
 }
 
 impl Tally {
@@ -65,6 +67,7 @@ impl Tally {
         self.started_by_then[record.started_by_31_may_1981 as usize] += 1;
         let diagnosis = Diagnosis::of(table).expect("the model scored it");
         self.ages[diagnosis.survey.dates.age() as usize] += 1;
+        self.scores.check(&diagnosis, record);
         for assessment in diagnosis.assessments() {
             let [a, b] = assessment.bands.map(|band| band as usize);
             self.bands[a.min(b)][a.max(b)] += 1;
@@ -116,6 +119,7 @@ impl Tally {
                 assert!(self.bands[lower][higher] >= least);
             }
         }
+        self.scores.assert_met(least);
     }
 
     /// Asserts that dates rows were refused with 3, with 4 at each column after the first, and with 10 and 11 at each of
@@ -312,6 +316,13 @@ fn worked_houses_are_printed_as_the_papers_have_them() {
     let in_x = [90, 100]
         .map(|zone| library::score(&worked::better_end_falls(zone)).map(|it| it.scores[0]));
     assert_eq!(in_x, [Ok(11), Ok(14)]);
+}
+
+#[test]
+fn worked_houses_have_their_records() {
+    for (name, table, record) in worked::with_records() {
+        assert_eq!(library::score(&table), Ok(record), "{name}");
+    }
 }
 
 #[test]

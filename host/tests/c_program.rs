@@ -20,6 +20,13 @@ fn run(program: &Path, file: &Path) -> Output {
     Command::new(program).arg(file).output().expect("it runs")
 }
 
+/// Runs it on the sheet that a table has.
+fn run_on(program: &Path, folder: &Path, table: &[u32]) -> Output {
+    let file = folder.join("house.sheet");
+    fs::write(&file, calls::sheet_of(table)).expect("the sheet is written");
+    run(program, &file)
+}
+
 #[test]
 fn it_prints_what_the_program_does() {
     let folder = common::folder("sheets");
@@ -67,9 +74,34 @@ fn the_example_sheets() {
     assert!(met >= 3);
     let output = run(&program, &common::top().join("examples/p1.sheet"));
     assert_eq!(output.stdout, worked::REPORT.as_bytes());
-    let shown = "storey 1, direction X: 0.47\nstorey 1, direction Y: 0.83\nverdict 4\nwork started by 31 May 1981\n";
+    let shown = "storey 1, direction X: 0.47 (47 hundredths, remainder 352000000000, divisor 384000000000)\n\
+                 storey 1, direction Y: 0.83 (83 hundredths, remainder 128000000000, divisor 384000000000)\n\
+                 verdict 4\nwork started by 31 May 1981\n";
     assert_eq!(String::from_utf8_lossy(&output.stderr), shown);
     assert_eq!(output.status.code(), Some(0));
+}
+
+/// A score at its limit has its own whole hundredths beside it.
+#[test]
+fn scores_at_their_limit() {
+    let folder = common::folder("limit");
+    let program = compiled(&folder);
+    for (table, scores) in [
+        (
+            worked::small(),
+            "storey 1, direction X: 9.99 (4791 hundredths, remainder 2560000000, divisor 3840000000)\n\
+             storey 1, direction Y: 9.99 (8333 hundredths, remainder 1280000000, divisor 3840000000)\n",
+        ),
+        (
+            worked::most_hundredths(),
+            "storey 1, direction X: 9.99 (1530612244 hundredths, remainder 3520000, divisor 3920000)\n\
+             storey 1, direction Y: 0.00 (0 hundredths, remainder 0, divisor 3920000)\n",
+        ),
+    ] {
+        let output = run_on(&program, &folder, &table);
+        let shown = String::from_utf8_lossy(&output.stderr);
+        assert!(shown.starts_with(scores), "{shown}");
+    }
 }
 
 #[test]
@@ -78,9 +110,7 @@ fn it_says_whether_work_started_by_31_may_1981() {
     let program = compiled(&folder);
     for (start, said) in [(19_810_531, "by"), (19_810_601, "after")] {
         let table = worked::with_dates([start, 19_820_101, 20_120_401]);
-        let file = folder.join("house.sheet");
-        fs::write(&file, calls::sheet_of(&table)).expect("the sheet is written");
-        let output = run(&program, &file);
+        let output = run_on(&program, &folder, &table);
         let line = format!("work started {said} 31 May 1981");
         let shown = String::from_utf8_lossy(&output.stderr);
         assert_eq!(shown.lines().last(), Some(line.as_str()));

@@ -4,7 +4,8 @@
  * A call: the function's name, in 32 bytes, 0 after it; what it only reads; what it fills. Each of these two is three
  * numbers, how many elements its buffer has before it, in it and after it, and then the buffer; three 0s where the
  * function fills nothing. A buffer of no bytes is a null pointer. An answer: the fields of the struct, then both buffers
- * as they are after the call. A number has 32 bits, the lowest first, as every machine has it that this is for.
+ * as they are after the call. A number has 32 bits, or in some fields 64, the lowest first, as every machine has it that
+ * this is for.
  *
  * A buffer ends where its memory does, so that reading or writing beyond it stops the program.
  */

@@ -11,7 +11,7 @@ const { girderbasil_answer, girderbasil_scoring, girderbasil_output } = LAYOUTS;
 // the struct's fields.
 const FUNCTIONS = {
     girderbasil_read: ["read", Uint8Array, Uint32Array, girderbasil_answer.size, 16],
-    girderbasil_score: ["score", Uint32Array, undefined, girderbasil_scoring.size, 48],
+    girderbasil_score: ["score", Uint32Array, undefined, girderbasil_scoring.size, 192],
     girderbasil_write_report: ["writeReport", Uint32Array, Uint8Array, girderbasil_answer.size, 16],
     girderbasil_diagnose: ["diagnose", Uint8Array, undefined, girderbasil_output.size, 16 + MOST_REPORT_BYTES],
 };
@@ -37,10 +37,14 @@ function takePart(Kind = Uint8Array) {
 
 // The fields of an answer, in the struct's order, as bytes: numbers, several numbers, or bytes.
 function fieldsOf(answer) {
-    const parts = Object.values(answer).map((field) =>
-        field instanceof Uint8Array ? field : new Uint8Array(Uint32Array.from([field].flat()).buffer),
-    );
+    const parts = Object.values(answer).map((field) => (field instanceof Uint8Array ? field : bytesOf([field].flat())));
     return Buffer.concat(parts);
+}
+
+// Numbers as bytes, eight for each `bigint` and four for each other.
+function bytesOf(numbers) {
+    const Kind = typeof numbers[0] === "bigint" ? BigUint64Array : Uint32Array;
+    return new Uint8Array(Kind.from(numbers).buffer);
 }
 
 // Calls a method of web/girderbasil.js; the buffers are changed, or not, by it.

@@ -46,7 +46,7 @@ fn scored(table: &[u32]) -> Scored {
         age: diagnosis.survey.dates.age(),
         before_layout: diagnosis
             .assessments()
-            .map(|it| it.score_before_layout())
+            .map(|it| it.score_before_layout().limited())
             .collect(),
         higher_bands: diagnosis.assessments().map(|it| it.higher_band()).collect(),
     }

@@ -3,9 +3,8 @@
 
 use girderbasil_host::answers::{Record, Refusal};
 use girderbasil_host::model::calendar::Day;
-use girderbasil_host::{
-    MOST_REPORT_BYTES, MOST_ROWS, MOST_WALLS, ROW, days, library, model, worked,
-};
+use girderbasil_host::worked::{self, changed};
+use girderbasil_host::{MOST_REPORT_BYTES, MOST_ROWS, MOST_WALLS, ROW, days, library, model};
 
 /// P1's dates row, counted from 1.
 const DATES_ROW: usize = 12;
@@ -22,15 +21,6 @@ fn scored(table: &[u32]) -> Result<Record, Refusal> {
 
 fn refused(number: u32, row: usize, column: usize) -> Result<Record, Refusal> {
     Err(Refusal::at(number, row, column))
-}
-
-/// P1's table with some of its numbers changed: (row, column, number), counted from 1.
-fn changed(changes: &[(usize, usize, u32)]) -> Vec<u32> {
-    let mut table = worked::TABLE.to_vec();
-    for &(row, column, number) in changes {
-        table[(row - 1) * ROW + column - 1] = number;
-    }
-    table
 }
 
 /// Puts every number from 19000101 to 21991231 into a column of P1's dates row, beside dates with which any day is in

@@ -32,6 +32,38 @@ static const uint32_t p1[12][COLUMNS] = {
     {8, 19800401, 19801001, 20120401, 0, 0, 0, 0},
 };
 
+/* What a record must have. */
+struct record {
+    uint32_t scores[6], count, verdict, started;
+    uint64_t hundredths[6], remainders[6], divisors[6];
+};
+
+/* A refused table's. */
+static const struct record no_record = {
+    {0, 0, 0, 0, 0, 0}, 0, 0, 0, {0, 0, 0, 0, 0, 0}, {0, 0, 0, 0, 0, 0}, {0, 0, 0, 0, 0, 0},
+};
+
+static const struct record p1_record = {
+    {47, 83, 0, 0, 0, 0},
+    2,
+    4,
+    1,
+    {47, 83, 0, 0, 0, 0},
+    {352000000000, 128000000000, 0, 0, 0, 0},
+    {384000000000, 384000000000, 0, 0, 0, 0},
+};
+
+/* P1 on a hundredth of its area: both scores are at their limit. */
+static const struct record small_record = {
+    {999, 999, 0, 0, 0, 0},
+    2,
+    1,
+    1,
+    {4791, 8333, 0, 0, 0, 0},
+    {2560000000, 1280000000, 0, 0, 0, 0},
+    {3840000000, 3840000000, 0, 0, 0, 0},
+};
+
 static const char p1_report[] =
     "       6       1       1     920    1600     100      83      47\n"
     "       6       1       2    1600    1600     100      83      83\n"
@@ -107,7 +139,8 @@ static void make_sheet(void)
     }
 }
 
-static void compare(const char *of_what, const char *field, uint32_t told, uint32_t due)
+/* A long has 64 bits on every machine that this is compiled for; C++98 knows no longer type. */
+static void compare(const char *of_what, const char *field, uint64_t told, uint64_t due)
 {
     if (told != due) {
         printf("%s: the %s is %lu where %lu is due\n", of_what, field, (unsigned long)told, (unsigned long)due);
@@ -133,19 +166,22 @@ static void compare_answer(const char *of_what, girderbasil_answer told, uint32_
 }
 
 static void compare_scoring(const char *of_what, girderbasil_scoring told, uint32_t number, uint32_t row,
-                            uint32_t column, const uint32_t scores[6], uint32_t count, uint32_t verdict,
-                            uint32_t started)
+                            uint32_t column, struct record due)
 {
     size_t each;
 
     compare(of_what, "number", told.number, number);
     compare(of_what, "row", told.row, row);
     compare(of_what, "column", told.column, column);
-    for (each = 0; each < 6; each++)
-        compare(of_what, "score", told.scores[each], scores[each]);
-    compare(of_what, "count", told.count, count);
-    compare(of_what, "verdict", told.verdict, verdict);
-    compare(of_what, "start of work", told.started_by_31_may_1981, started);
+    compare(of_what, "count", told.count, due.count);
+    compare(of_what, "verdict", told.verdict, due.verdict);
+    compare(of_what, "start of work", told.started_by_31_may_1981, due.started);
+    for (each = 0; each < 6; each++) {
+        compare(of_what, "score", told.scores[each], due.scores[each]);
+        compare(of_what, "whole hundredths", told.hundredths[each], due.hundredths[each]);
+        compare(of_what, "remainder", told.remainders[each], due.remainders[each]);
+        compare(of_what, "divisor", told.divisors[each], due.divisors[each]);
+    }
 }
 
 /* What is printed for a sheet: the fields, the bytes from the front, and 0 in every byte after them. */
@@ -191,9 +227,7 @@ static void sheet_refused(const char *of_what, uint32_t number, uint32_t row, ui
 /* So many numbers of the table at hand are refused, by the scoring and by the report. */
 static void numbers_refused(const char *of_what, size_t numbers, uint32_t number, uint32_t row, uint32_t column)
 {
-    static const uint32_t none[6] = {0, 0, 0, 0, 0, 0};
-
-    compare_scoring(of_what, girderbasil_score(table, numbers), number, row, column, none, 0, 0, 0);
+    compare_scoring(of_what, girderbasil_score(table, numbers), number, row, column, no_record);
     compare_answer(of_what, write_report(numbers, sizeof lent_report), number, row, column, 0);
 }
 
@@ -201,6 +235,12 @@ static void numbers_refused(const char *of_what, size_t numbers, uint32_t number
 static void table_refused(const char *of_what, uint32_t number, uint32_t row, uint32_t column)
 {
     numbers_refused(of_what, rows * COLUMNS, number, row, column);
+}
+
+/* The table at hand is scored. */
+static void table_scored(const char *of_what, struct record due)
+{
+    compare_scoring(of_what, girderbasil_score(table, rows * COLUMNS), 0, 0, 0, due);
 }
 
 /* P1 with another number at a row and column is refused. */
@@ -214,14 +254,13 @@ static void p1_refused(const char *of_what, size_t at_row, size_t at_column, uin
 
 static void try_p1(void)
 {
-    static const uint32_t scores[6] = {47, 83, 0, 0, 0, 0};
     uint32_t bytes = (uint32_t)strlen(p1_report);
 
     make_p1();
     make_sheet();
     compare_answer("P1, read", read_sheet(sheet_length, ROOM * COLUMNS), 0, 0, 0, 12);
     compare_bytes("P1, read", lent_table, p1, sizeof p1);
-    compare_scoring("P1, scored", girderbasil_score(table, rows * COLUMNS), 0, 0, 0, scores, 2, 4, 1);
+    table_scored("P1, scored", p1_record);
     compare_answer("P1, reported", write_report(rows * COLUMNS, sizeof lent_report), 0, 0, 0, bytes);
     compare_bytes("P1, reported", lent_report, p1_report, bytes);
 }
@@ -229,18 +268,32 @@ static void try_p1(void)
 /* P1 with work that started on a day, and a completion after each day that is tried. */
 static void try_start(const char *of_what, uint32_t day, uint32_t started)
 {
-    static const uint32_t scores[6] = {47, 83, 0, 0, 0, 0};
+    struct record due = p1_record;
 
+    due.started = started;
     make_p1();
     put(12, 2, day);
     put(12, 3, 19820101);
-    compare_scoring(of_what, girderbasil_score(table, rows * COLUMNS), 0, 0, 0, scores, 2, 4, started);
+    table_scored(of_what, due);
 }
 
 static void try_starts(void)
 {
     try_start("work started on 31 May 1981", 19810531, 1);
     try_start("work started on 1 June 1981", 19810601, 0);
+}
+
+static void try_limit(void)
+{
+    size_t direction;
+
+    make_p1();
+    put(2, 3, 40);
+    for (direction = 1; direction <= 2; direction++) {
+        put(2 + direction, 4, 10);
+        put(2 + direction, 5, 10);
+    }
+    table_scored("scores at their limit", small_record);
 }
 
 static void try_refusals(void)
@@ -346,6 +399,7 @@ int main(void)
 {
     try_p1();
     try_starts();
+    try_limit();
     try_refusals();
     try_line_and_row();
     try_most_rows();

@@ -111,5 +111,5 @@ fn two_fields_exchanged_are_seen() {
         assert!(!agrees(&exchanged, &folder), "{}", lines[first]);
         met += 1;
     }
-    assert!(met >= 13, "{met}");
+    assert!(met >= 16, "{met}");
 }

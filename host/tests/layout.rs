@@ -24,7 +24,7 @@ fn layouts_in_rust() -> Vec<String> {
     let mut layouts = vec![];
     layouts.extend(layout!("girderbasil_answer", raw::Answer: number row column count));
     layouts.extend(layout!("girderbasil_scoring", raw::Scoring:
-        number row column scores count verdict started_by_31_may_1981));
+        number row column scores count verdict started_by_31_may_1981 hundredths remainders divisors));
     layouts.extend(layout!("girderbasil_output", raw::Output: number row column count bytes));
     layouts
 }
@@ -43,7 +43,7 @@ fn sizes_in_rust() -> Vec<String> {
 #[test]
 fn rust_has_the_layouts_of_the_header() {
     let asserted = header::layouts();
-    assert!(asserted.len() >= 19, "{asserted:?}");
+    assert!(asserted.len() >= 22, "{asserted:?}");
     assert_eq!(layouts_in_rust(), asserted);
 }
 

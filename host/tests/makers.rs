@@ -46,7 +46,7 @@ fn scores_met(seed: u64, maker: fn(&mut Random) -> Vec<u32>) -> [[usize; 1_000];
         let table = maker(&mut random);
         let diagnosis = Diagnosis::of(&table).expect("a house is accepted");
         for assessment in diagnosis.assessments() {
-            met[house::snow_of(&table)][assessment.score() as usize] += 1;
+            met[house::snow_of(&table)][assessment.score().limited() as usize] += 1;
         }
     }
     met

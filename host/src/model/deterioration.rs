@@ -8,7 +8,7 @@ const POINTS: [u32; 13] = [2, 2, 2, 4, 2, 1, 1, 1, 2, 2, 2, 1, 2];
 /// Items 6, 7, 8 and 12, which aren't surveyed under ten years.
 const NOT_SURVEYED_YOUNG: u32 = 1 << 5 | 1 << 6 | 1 << 7 | 1 << 11;
 
-/// A factor as points over points, or 7/10, or 1/1.
+/// A factor as points over points, or 7/10, or 1/1; not reduced, since its lower number is a part of a score's divisor.
 #[derive(Debug, Clone, Copy, PartialEq, Eq)]
 pub struct Fraction {
     pub numerator: u32,

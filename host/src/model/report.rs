@@ -31,7 +31,7 @@ pub fn write_report_into(
     let mut least = u32::MAX;
     for assessment in diagnosis.assessments() {
         write_row(&assessment_row(&assessment), report);
-        least = least.min(assessment.score());
+        least = least.min(assessment.score().limited());
     }
     write_row(&[VERDICT, verdict(least), least, 0, 0, 0, 0, 0], report);
     Ok(())
@@ -47,7 +47,7 @@ fn assessment_row(assessment: &Assessment) -> Row {
         assessment.required.div_ceil(10_000_000) as u32,
         assessment.layout as u32,
         assessment.deterioration.in_hundredths(),
-        assessment.score(),
+        assessment.score().limited(),
     ]
 }
 

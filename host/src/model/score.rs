@@ -1,4 +1,4 @@
-//! "Score and verdict".
+//! "Score and verdict", and document 02's request 4: the score with what was left over.
 
 use super::deterioration::{self, Fraction};
 use super::held::{self, Held};
@@ -30,6 +30,22 @@ pub struct Assessment {
     /// In hundredths.
     pub layout: u64,
     pub deterioration: Fraction,
+}
+
+/// A score before its limit of 999: hundredths × divisor + remainder is what was divided, and the remainder is smaller
+/// than the divisor.
+#[derive(Debug, Clone, Copy, PartialEq, Eq)]
+pub struct Quotient {
+    pub hundredths: u64,
+    pub remainder: u64,
+    pub divisor: u64,
+}
+
+impl Quotient {
+    /// The score that is printed and judged by, in hundredths.
+    pub fn limited(self) -> u32 {
+        self.hundredths.min(MOST_SCORE) as u32
+    }
 }
 
 impl<'table> Diagnosis<'table> {
@@ -73,13 +89,12 @@ impl<'table> Diagnosis<'table> {
 }
 
 impl Assessment {
-    /// In hundredths.
-    pub fn score(&self) -> u32 {
+    pub fn score(&self) -> Quotient {
         self.score_at(self.layout)
     }
 
-    /// The score before the layout factor, in hundredths.
-    pub fn score_before_layout(&self) -> u32 {
+    /// The score before the layout factor.
+    pub fn score_before_layout(&self) -> Quotient {
         self.score_at(100)
     }
 
@@ -87,28 +102,35 @@ impl Assessment {
         self.bands[0].max(self.bands[1])
     }
 
-    fn score_at(&self, layout: u64) -> u32 {
-        let held = 1_000 * self.held * layout * u64::from(self.deterioration.numerator);
-        let required = self.required * u64::from(self.deterioration.denominator);
-        (held / required).min(MOST_SCORE) as u32
+    fn score_at(&self, layout: u64) -> Quotient {
+        let dividend = 1_000 * self.held * layout * u64::from(self.deterioration.numerator);
+        let divisor = self.required * u64::from(self.deterioration.denominator);
+        Quotient {
+            hundredths: dividend / divisor,
+            remainder: dividend % divisor,
+            divisor,
+        }
     }
 }
 
 /// The record of a table.
 pub fn score(table: &[u32]) -> Result<Record, Refusal> {
     let diagnosis = Diagnosis::of(table)?;
-    let mut scores = [0; 6];
-    for (place, assessment) in scores.iter_mut().zip(diagnosis.assessments()) {
-        *place = assessment.score();
-    }
-    let count = diagnosis.count();
-    let least = scores[..count as usize].iter().min();
-    Ok(Record {
-        scores,
-        count,
-        verdict: verdict(*least.expect("a house has a storey")),
+    let mut record = Record {
+        count: diagnosis.count(),
         started_by_31_may_1981: u32::from(diagnosis.survey.dates.started_by_31_may_1981()),
-    })
+        ..Record::default()
+    };
+    for (place, assessment) in diagnosis.assessments().enumerate() {
+        let score = assessment.score();
+        record.scores[place] = score.limited();
+        record.hundredths[place] = score.hundredths;
+        record.remainders[place] = score.remainder;
+        record.divisors[place] = score.divisor;
+    }
+    let least = record.scores[..record.count as usize].iter().min();
+    record.verdict = verdict(*least.expect("a house has a storey"));
+    Ok(record)
 }
 
 /// The verdict of the least score, which is in hundredths.

@@ -60,12 +60,7 @@ impl Score {
     /// A refused table's record is all 0.
     pub fn answer(&self) -> raw::Scoring {
         let (number, row, column) = refusal_fields(self.expected.as_ref().err());
-        let record = self.expected.unwrap_or(Record {
-            scores: [0; 6],
-            count: 0,
-            verdict: 0,
-            started_by_31_may_1981: 0,
-        });
+        let record = self.expected.unwrap_or_default();
         raw::Scoring {
             number,
             row,
@@ -74,6 +69,9 @@ impl Score {
             count: record.count,
             verdict: record.verdict,
             started_by_31_may_1981: record.started_by_31_may_1981,
+            hundredths: record.hundredths,
+            remainders: record.remainders,
+            divisors: record.divisors,
         }
     }
 }

@@ -4,6 +4,7 @@
 pub mod calls;
 pub mod header;
 pub mod lent;
+pub mod remainders;
 
 use std::fs;
 use std::io::{ErrorKind, Write};

@@ -2,6 +2,7 @@
 
 use std::process::Command;
 
+use girderbasil_host::answers::Record;
 use girderbasil_host::library::raw;
 use girderbasil_host::random::{Random, damage, house};
 use girderbasil_host::{MOST_ROWS, ROW, model};
@@ -34,8 +35,8 @@ struct Met {
     snow: Option<usize>,
     /// Its age on the survey day; nothing where it is refused or only read.
     age: Option<u32>,
-    /// Whether work on it started by 31 May 1981, where that is answered.
-    started_by_then: Option<u32>,
+    /// Its record, where that is answered.
+    record: Option<Record>,
 }
 
 /// What crosses in a buffer.
@@ -50,6 +51,12 @@ impl Element for u8 {
 }
 
 impl Element for u32 {
+    fn put(self, bytes: &mut Vec<u8>) {
+        bytes.extend(self.to_le_bytes());
+    }
+}
+
+impl Element for u64 {
     fn put(self, bytes: &mut Vec<u8>) {
         bytes.extend(self.to_le_bytes());
     }
@@ -129,7 +136,7 @@ impl Call {
             left: written.map(|written| call.table.slice().len() - written.len()),
             snow: written.map(|written| house::snow_of(written)),
             age: None,
-            started_by_then: None,
+            record: None,
         };
         let bytes = answer_bytes(answer);
         Self::filling(met, &call.sheet, &call.table, &call.table_after, bytes)
@@ -147,13 +154,16 @@ impl Call {
                 .ok()
                 .map(|_| house::snow_of(call.table.slice())),
             age: age_of(call.table.slice()),
-            started_by_then: call.expected.ok().map(|it| it.started_by_31_may_1981),
+            record: call.expected.ok(),
         };
         let mut bytes = vec![];
         put_all(&[answer.number, answer.row, answer.column], &mut bytes);
         put_all(&answer.scores, &mut bytes);
         put_all(&[answer.count, answer.verdict], &mut bytes);
         put_all(&[answer.started_by_31_may_1981], &mut bytes);
+        for six in [answer.hundredths, answer.remainders, answer.divisors] {
+            put_all(&six, &mut bytes);
+        }
         Self::reading(met, &call.table, bytes)
     }
 
@@ -167,7 +177,7 @@ impl Call {
             left: written.map(|written| call.report.slice().len() - written.len()),
             snow: written.map(|_| house::snow_of(call.table.slice())),
             age: written.and_then(|_| age_of(call.table.slice())),
-            started_by_then: None,
+            record: None,
         };
         let bytes = answer_bytes(answer);
         Self::filling(met, &call.table, &call.report, &call.report_after, bytes)
@@ -184,7 +194,7 @@ impl Call {
             left: None,
             snow: scored.as_deref().map(house::snow_of),
             age: scored.as_deref().and_then(age_of),
-            started_by_then: None,
+            record: None,
         };
         let mut bytes = vec![];
         put_all(&[answer.number, answer.row, answer.column], &mut bytes);
@@ -255,8 +265,7 @@ fn assert_all_met(calls: &[Met]) {
     }
 }
 
-/// Asserts that each function that scores met dates that are refused, at each of their columns, and houses of both ages;
-/// and that work on houses whose record was answered started by 31 May 1981, and later.
+/// Asserts that each function that scores met dates that are refused, at each of their columns, and houses of both ages.
 fn assert_dates_met(calls: &[Met]) {
     let scoring = FUNCTIONS.into_iter().filter(|it| it.1.contains(&11));
     for (function, ..) in scoring {
@@ -270,10 +279,39 @@ fn assert_dates_met(calls: &[Met]) {
             assert!(met >= 1_000, "{function}, age {age}: {met}");
         }
     }
-    for answer in [0, 1] {
-        let started = |call: &Met| call.started_by_then == Some(answer);
-        let met = count(calls, "girderbasil_score", &started);
-        assert!(met >= 1_000, "start of work, {answer}: {met}");
+}
+
+/// What may be said of a record.
+type Kind = (&'static str, fn(&Record) -> bool);
+
+/// A remainder or a divisor is long where 32 bits don't hold it. Hundredths never are.
+const RECORDS: [Kind; 6] = [
+    ("work started by 31 May 1981", |record| {
+        record.started_by_31_may_1981 == 1
+    }),
+    ("work started later", |record| {
+        record.started_by_31_may_1981 == 0
+    }),
+    ("hundredths above the limit of scores", |record| {
+        record.hundredths.iter().any(|&it| it > 999)
+    }),
+    ("nothing left over", |record| {
+        record.remainders[..record.count as usize].contains(&0)
+    }),
+    ("a long remainder", |record| {
+        record.remainders.iter().any(|&it| it >> 32 > 0)
+    }),
+    ("a long divisor", |record| {
+        record.divisors.iter().any(|&it| it >> 32 > 0)
+    }),
+];
+
+/// Asserts that enough records of each kind were answered.
+fn assert_records_met(calls: &[Met]) {
+    for (name, holds) in RECORDS {
+        let wanted = |call: &Met| call.record.is_some_and(|record| holds(&record));
+        let met = count(calls, "girderbasil_score", &wanted);
+        assert!(met >= 500, "{name}: {met}");
     }
 }
 
@@ -293,6 +331,7 @@ fn answers_as_the_model_does(mut program: Command) {
     assert_eq!(met.len(), CALLS);
     assert_all_met(&met);
     assert_dates_met(&met);
+    assert_records_met(&met);
 }
 
 /// Compares what a program gave with what the calls must give.
@@ -353,5 +392,5 @@ fn under_node_the_javascript_passes_its_own_tests() {
     assert!(output.status.success(), "{printed}");
     let mut counts = printed.lines();
     let passed = counts.find_map(|line| line.strip_prefix("# pass ")?.parse().ok());
-    assert!(passed >= Some(14), "{passed:?} of them");
+    assert!(passed >= Some(16), "{passed:?} of them");
 }

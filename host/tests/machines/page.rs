@@ -140,8 +140,15 @@ fn under_node_a_sheet_is_scored() {
     let mut command = node(&script);
     command.arg(&folder);
     for (file, shown) in [
-        ("examples/p1.sheet", "0 0 0 47,83,0,0,0,0 2 4 1\n"),
-        ("examples/refused.sheet", "6 3 4 0,0,0,0,0,0 0 0 0\n"),
+        (
+            "examples/p1.sheet",
+            "0 0 0 47,83,0,0,0,0 2 4 1 47,83,0,0,0,0 \
+             352000000000,128000000000,0,0,0,0 384000000000,384000000000,0,0,0,0\n",
+        ),
+        (
+            "examples/refused.sheet",
+            "6 3 4 0,0,0,0,0,0 0 0 0 0,0,0,0,0,0 0,0,0,0,0,0 0,0,0,0,0,0\n",
+        ),
     ] {
         let sheet = fs::read(common::top().join(file)).expect("an example");
         let output = common::run(&mut command, &sheet);
