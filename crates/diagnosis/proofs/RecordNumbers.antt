@@ -2,6 +2,7 @@
 use mathlib.Core.Path.{_≡_, sym}
 use mathlib.Core.List.{List}
 use Prim.Native.Nat.{ℕ, _+_, _*_, _<_, min}
+use native.Mathlib.Nat.{mul-pos}
 use lib.ListN.{getD}
 use Rattle.survey.specs.Judgement.{judging}
 use Rattle.method.proofs.Theorems.{score-divided, remainder-smaller}
@@ -22,14 +23,17 @@ Divided table storey direction score hundredths remainder divisor =
     × (score ≡ min hundredths 999)
 
 module _ (table : List ℕ) (h : judging table .number ≡ 0) (storey direction : ℕ) (s : InHouse table storey direction) where
+  -- The divisor is not 0.
+  divisor-some : 0 < required table storey * deterioration table .lower
+  divisor-some = mul-pos (required-some table h (s .some-storey) (s .last-storey)) (lower-some table)
+
   quotient-divided : let found = fullQuotient table storey direction in
       Divided table storey direction (fullScore table storey direction) (found .hundredths) (found .remainder) (found .divisor)
   unfolding quotientWith scoreWith
   quotient-divided =
       let strengths = strengthsWith table (held table storey direction) storey in
       let divided = score-divided strengths (layout table storey direction) (deterioration table) in
-      let needs = required-some table h (s .some-storey) (s .last-storey) in
-      (divided .0, remainder-smaller strengths (layout table storey direction) (deterioration table) needs (lower-some table), divided .1, divided .2)
+      (divided .0, remainder-smaller strengths (layout table storey direction) (deterioration table) divisor-some, divided .1, divided .2)
 
   pub record-divided : (a : Scoring) → toldScoring a ≡ scoring table
       → let place : List ℕ → ℕ = λ numbers. getD numbers (scoreAt storey direction) 0 in

@@ -1,7 +1,7 @@
 -- A score's whole hundredths, remainder and divisor. Assumes nothing.
 use mathlib.Core.Path.{_≡_, refl}
 use Prim.Native.Nat.{ℕ, _+_, _*_, _<_, _≤_, min}
-use native.Mathlib.Nat.{mul-pos, mod-lt, div-add-mod'}
+use native.Mathlib.Nat.{mod-lt, div-add-mod'}
 use native.Mathlib.Omega.{arith}
 use Rattle.method.specs.declared.deterioration.Fraction.{Fraction}
 use Rattle.method.specs.declared.rows.Strengths.{Strengths}
@@ -15,10 +15,10 @@ module _ (strengths : Strengths) (layout : ℕ) (f : Fraction) where
   unfolding quotient
   all-divided = div-add-mod' (dividend strengths layout f) (divisor strengths f)
 
-  -- Where something is required, the remainder is smaller than the divisor.
-  pub remainder-smaller : 0 < strengths .required → 0 < f .lower → let found = quotient strengths layout f in found .remainder < found .divisor
+  -- Where the divisor is not 0, the remainder is smaller.
+  pub remainder-smaller : 0 < divisor strengths f → let found = quotient strengths layout f in found .remainder < found .divisor
   unfolding quotient
-  remainder-smaller needs hf = mod-lt (dividend strengths layout f) (mul-pos needs hf)
+  remainder-smaller some = mod-lt (dividend strengths layout f) some
 
   pub divisor-is : quotient strengths layout f .divisor ≡ divisor strengths f
   unfolding quotient

@@ -74,8 +74,9 @@ pub score-divided : (strengths : Strengths) (layout : ℕ) (f : Fraction)
 score-divided strengths layout f =
     (quotients.all-divided strengths layout f, quotients.divisor-is strengths layout f, quotients.score-limited strengths layout f)
 
--- "and the remainder is smaller than the divisor", where something is required. The lower number of a deterioration factor is never 0.
-pub remainder-smaller : (strengths : Strengths) (layout : ℕ) (f : Fraction) → 0 < strengths .required → 0 < f .lower
+-- "and the remainder is smaller than the divisor", where that is not 0: where something is required, since the lower number of a deterioration factor
+-- never is.
+pub remainder-smaller : (strengths : Strengths) (layout : ℕ) (f : Fraction) → 0 < strengths .required * f .lower
     → let found = quotient strengths layout f in found .remainder < found .divisor
 remainder-smaller = quotients.remainder-smaller
 

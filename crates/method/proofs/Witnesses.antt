@@ -90,7 +90,7 @@ p1-divided = score-divided (strengths 9_200_000 16_000_000_000) 100 (fraction 20
 
 p1-remainder : 352_000_000_000 < 384_000_000_000
 unfolding quotient
-p1-remainder = remainder-smaller (strengths 9_200_000 16_000_000_000) 100 (fraction 20 24) (lit< tt) (lit< tt)
+p1-remainder = remainder-smaller (strengths 9_200_000 16_000_000_000) 100 (fraction 20 24) (lit< tt)
 
 -- Where nothing is required, all is left.
 nothing-divided : (0 * 0 + 234_000_000_000 ≡ 234_000_000_000) × (_≡_ {A = ℕ} 0 0) × (_≡_ {A = ℕ} 0 0)
