@@ -190,16 +190,18 @@ fn check_table(random: &mut Random, table: &[u32], tally: &mut Tally) {
     let call = Score::new(random, table);
     let after = call.table.buffer.clone();
 
-    assert_eq!(library::raw_score(call.table.slice()), call.answer());
-    assert_eq!(library::score(call.table.slice()), call.expected);
-
-    assert_same(&call.table.buffer, &after, "the table that was scored");
+    let scored = library::score(call.table.slice());
     tally.cases += 1;
     tally.scored[number_of(&call.expected)] += 1;
-    match &call.expected {
-        Ok(record) => tally.count_house(table, record),
-        Err(refusal) => tally.count_refusal(table, refusal),
+    // What the library answers is checked by itself before it is compared, so that this doesn't rest on the model's record.
+    match (&scored, &call.expected) {
+        (Ok(record), Ok(_)) => tally.count_house(table, record),
+        (_, Err(refusal)) => tally.count_refusal(table, refusal),
+        (Err(_), Ok(_)) => {}
     }
+    assert_eq!(scored, call.expected);
+    assert_eq!(library::raw_score(call.table.slice()), call.answer());
+    assert_same(&call.table.buffer, &after, "the table that was scored");
     check_report(random, table, tally);
 }
 

@@ -1,6 +1,6 @@
 -- What is worked out for a house: the score that is computed is the one that is defined; its own sums can be worked out with; and its record and
 -- report are those of its table. Assumes nothing.
-use mathlib.Core.Path.{_≡_, refl, sym, _∙_}
+use mathlib.Core.Path.{_≡_, refl, _∙_}
 use mathlib.Core.Bool.{Bool, true, false, cond}
 use mathlib.Core.List.{List}
 use Prim.Native.Nat.{ℕ, zero, suc, _+_, _*_, _<_, _≤_}
@@ -14,12 +14,12 @@ use Rattle.survey.specs.Table.{storeys}
 use Rattle.survey.specs.Judgement.{judging}
 use Rattle.survey.proofs.RefusalNumbers.{judging-accepts}
 use Rattle.method.specs.Held.{mostHeld}
-use Rattle.method.specs.Score.{limited, cappedQuotient}
+use Rattle.method.specs.Score.{cappedQuotient}
 use Rattle.method.proofs.Fractions.{deterioration-bounded}
-use Rattle.method.proofs.Quotients.{score-limited, capped-quotient}
+use Rattle.method.proofs.Quotients.{capped-quotient}
 use Rattle.diagnosis.specs.Rows.{itemsOf, age}
 use Rattle.diagnosis.specs.declared.assessment.Assessment.{Assessment}
-use Rattle.diagnosis.specs.House.{layout, deterioration, strengthsWith, scoreWith, quotientWith, scores, leastScore, houseVerdict, startedBy31May1981, assessment}
+use Rattle.diagnosis.specs.House.{layout, deterioration, strengthsWith, quotientWith, scores, leastScore, houseVerdict, startedBy31May1981, assessment}
 use Rattle.diagnosis.specs.Answers.{sixNumbers, recordOf}
 use Rattle.diagnosis.specs.Report.{resultRows, reportRows, reportLines, reportBytes, reporting, afterReporting}
 use Rattle.diagnosis.specs.Internal.{heldSums, six, storeyAt, directionAt, noSums, noAssessment, sumsIn, houseSums, AllFit, allHeld, assessmentAt, houseAssessmentWith, houseAssessment, each, recordBy, bytesBy, Printable, reportingBy, afterReportingBy}
@@ -33,12 +33,6 @@ pub quotient-is : (table : List ℕ) → judging table .number ≡ 0 → (storey
 unfolding quotientWith
 quotient-is table h storey direction some most {held} small =
     capped-quotient (strengthsWith table held storey) (layout table storey direction) (deterioration table) small (required-within table h some most)
-
--- And limited it is the score.
-pub limited-score : (table : List ℕ) (held storey direction : ℕ) → limited (quotientWith table held storey direction) ≡ scoreWith table held storey direction
-unfolding quotientWith scoreWith
-limited-score table held storey direction =
-    sym (score-limited (strengthsWith table held storey) (layout table storey direction) (deterioration table))
 
 -- The lower number of the deterioration factor is positive.
 pub lower-some : (table : List ℕ) → 0 < deterioration table .lower

@@ -2,7 +2,7 @@
 use mathlib.Core.Path.{_≡_, refl, sym, ap, fun-ext, _∙_}
 use mathlib.Core.Bool.{false, and-false}
 use mathlib.Core.List.{List}
-use Prim.Native.Nat.{ℕ, _+_, _-_, _*_, _/_, _%_, _<_, _≤_}
+use Prim.Native.Nat.{ℕ, _+_, _*_, _/_, _%_, _<_, _≤_}
 use native.Mathlib.Nat.{le-refl, le-of-eq}
 use native.Mathlib.Omega.{arith}
 use lib.Dec.{eqb}
@@ -20,13 +20,14 @@ use Rattle.method.specs.declared.rows.HousePart.{HousePart}
 use Rattle.method.specs.Required.{narrowFactor}
 use Rattle.method.specs.LayoutFactor.{NoStronger, floorType}
 use Rattle.method.specs.Deterioration.{_at-most_}
+use Rattle.method.specs.Score.{score}
 use Rattle.method.proofs.Shares as shares
 use Rattle.method.proofs.Requirements as requirements
 use Rattle.method.proofs.Requirements.{required-rises}
 use Rattle.method.proofs.Fractions.{deterioration-falls}
 use Rattle.method.proofs.Comparisons.{score-before-falls, full-score-falls, verdict-rises}
-use Rattle.diagnosis.specs.Rows.{foundation, snow, houseOf, storeyOf, storeyPart, endA, endB, wallOf, present, marked, itemsOf, completion, surveyDay, age}
-use Rattle.diagnosis.specs.House.{InHouse, share, held, endHeld, narrow, requiredOf, required, endRequired, endStrengths, endBand, higherBand, storeyFloorType, layout, deterioration, strengthsWith, scoreBefore, scoreWith, fullScore, scores, leastScore, houseVerdict}
+use Rattle.diagnosis.specs.Rows.{foundation, snow, houseOf, storeyOf, endA, endB, wallOf, present, marked, itemsOf, completion, surveyDay, age}
+use Rattle.diagnosis.specs.House.{InHouse, share, held, endHeld, narrow, requiredOf, required, endRequired, endStrengths, endBand, higherBand, storeyFloorType, layout, deterioration, strengthsWith, scoreBefore, scoreWith, quotientWith, fullScore, scores, leastScore, houseVerdict}
 use Rattle.diagnosis.specs.Answers.{recordOf}
 use Rattle.diagnosis.specs.Comparison.{houseMayDiffer, partsMayDiffer, datesMayDiffer, mayDiffer, SameOrWorse, BandKept, NoBetter}
 use Rattle.diagnosis.proofs.ScoreLists.{scores-length, score-at, record-score, record-told, least-falls, in-house-at}
@@ -169,7 +170,7 @@ module _ (A B : List ℕ) (w : SameOrWorse A B) where
 
     -- Nor is the full score, where the higher band is kept.
     full-falls : BandKept A B storey direction → fullScore B storey direction ≤ fullScore A storey direction
-    unfolding scoreWith layout endBand higherBand
+    unfolding scoreWith quotientWith score layout endBand higherBand
     full-falls kept =
         rw (← floor-same)
         (full-score-falls (storeyFloorType A storey) (deterioration A) (deterioration B) storey-weaker (end-weaker endA (omega arith))

@@ -1,5 +1,5 @@
 -- Document 01's houses worked through, from P1's sheet to its report, by computation. Assumes nothing.
-use mathlib.Core.Path.{_≡_, refl, ap}
+use mathlib.Core.Path.{_≡_, refl}
 use mathlib.Core.List.{List, [], _∷_}
 use Prim.Native.Nat.{ℕ, _+_, _≤_, max}
 use native.Mathlib.Nat.{le-refl}
@@ -34,13 +34,13 @@ use Rattle.diagnosis.specs.Rows.{endA, endB}
 use Rattle.method.specs.declared.scores.Quotient.{Quotient}
 use Rattle.diagnosis.specs.House.{inDirection, solidAtEnd, held, endHeld, narrow, requiredOf, required, endRequired, endBand, higherBand, storeyFloorType, layout, deterioration, strengthsWith, scoreBefore, scoreWith, quotientWith, fullScore, fullQuotient, scores, leastOf, leastScore, houseVerdict, startedBy31May1981}
 use Rattle.diagnosis.specs.declared.held.HeldSums.{HeldSums}
+use Rattle.diagnosis.specs.declared.scores.Record.{Record}
 use Rattle.diagnosis.specs.declared.scores.Outcome.the-variants.{Scored, Refused}
 use Rattle.diagnosis.specs.Internal.{heldSums}
 use Rattle.diagnosis.specs.Answers.{toldOutcome, sixNumbers, noRecord, recordOf, scoring}
 use Rattle.diagnosis.specs.Comparison.{scoreAt}
 use Rattle.diagnosis.specs.Report.{resultRows, reportRows, reportBytes, reporting, refusalLine}
 use Rattle.diagnosis.specs.Program.{mostNumbers, tableOf, diagnosing, afterDiagnosing, mostReportBytes, output}
-use Rattle.diagnosis.proofs.Assessments.{limited-score}
 use Rattle.diagnosis.specs.Worked.{p1Report, p1Record, soundRecord, allWorseRecord, smallFloor, withParts, withMiddleWall, onTheGround, p10, underTenDay, tenDay, sound, heavy, zone100, softGround, overTen, moreMarks, allWorse, startedOn, underSnow, snowySound, snowyWorse, weakJoints, figures, sameBands}
 
 -- P1's sheet can be read, and is P1's table.
@@ -71,7 +71,7 @@ p10-walls zone known = rw (p10-judged zone known)
 
 -- From the walls on all is computed. Laws below that name this one in their `unfolding` line unfold what it does.
 pub p1-scores : scores p1 ≡ 47 ∷ 83 ∷ []
-unfolding scores joined scoreWith scoreBefore layout higherBand endBand endRequired required requiredOf narrow deterioration storeyFloorType held endHeld solidAtEnd inDirection rowsFrom wallRows first nth position foundationUsed sharedRow topEntry entryIn entry interpolated rowFactor jointFactor solidShare openingShare wallShare heldStrength topLine constant snowAddition perArea groundFactor narrowFactor requiredStrength reached band floorType layoutFactor points countedMarks factorOf deteriorationFactor quotient score isLeap daysIn isDate tenYearsAfter ageOn
+unfolding scores joined scoreWith quotientWith scoreBefore layout higherBand endBand endRequired required requiredOf narrow deterioration storeyFloorType held endHeld solidAtEnd inDirection rowsFrom wallRows first nth position foundationUsed sharedRow topEntry entryIn entry interpolated rowFactor jointFactor solidShare openingShare wallShare heldStrength topLine constant snowAddition perArea groundFactor narrowFactor requiredStrength reached band floorType layoutFactor points countedMarks factorOf deteriorationFactor quotient score isLeap daysIn isDate tenYearsAfter ageOn
 p1-scores = rw p1-walls
 
 p1-rows : reportRows p1 ≡
@@ -189,7 +189,7 @@ module _ (house : List ℕ) (two-storeys : storeys house ≡ 2) where
       ∷ (beforeBy 1 one ∷ beforeBy 1 two ∷ beforeBy 2 three ∷ beforeBy 2 four ∷ [])
       ∷ (higherBy 1 1 one ∷ higherBy 1 2 two ∷ higherBy 2 1 three ∷ higherBy 2 2 four ∷ [])
       ∷ []
-  unfolding scores joined scoreWith scoreBefore layout higherBand endBand
+  unfolding scores joined scoreWith quotientWith score scoreBefore layout higherBand endBand
   by-sums holds =
       rw two-storeys (
       λ i.
@@ -199,10 +199,15 @@ module _ (house : List ℕ) (two-storeys : storeys house ≡ 2) where
       ∷ []
       )
 
-  quotient-by-sums : (storey direction : ℕ) {sums : HeldSums} → heldSums house storey direction ≡ sums
-      → fullQuotient house storey direction ≡ quotientBy storey direction sums
+  quotients-by-sums : {one two three four : HeldSums}
+      → (heldSums house 1 1 ≡ one) × (heldSums house 1 2 ≡ two) × (heldSums house 2 1 ≡ three) × (heldSums house 2 2 ≡ four)
+      → (fullQuotient house 1 1 ≡ quotientBy 1 1 one)
+      × (fullQuotient house 1 2 ≡ quotientBy 1 2 two)
+      × (fullQuotient house 2 1 ≡ quotientBy 2 1 three)
+      × (fullQuotient house 2 2 ≡ quotientBy 2 2 four)
   unfolding quotientWith layout endBand
-  quotient-by-sums storey direction holds = λ i. quotientBy storey direction (holds i)
+  quotients-by-sums holds =
+      ((λ i. quotientBy 1 1 (holds .0 i)), (λ i. quotientBy 1 2 (holds .1 i)), (λ i. quotientBy 2 1 (holds .2 i)), (λ i. quotientBy 2 2 (holds .3 i)))
 
 -- What is held in all, at end a and at end b.
 abbrev sums : ℕ → ℕ → ℕ → HeldSums
@@ -335,7 +340,7 @@ pub left-over :
     × (onTheGround (withMiddleWall 4000) ≡ (57 ∷ 57 ∷ 8_000_000_000 ∷ 16_000_000_000 ∷ []) ∷ (100 ∷ 100 ∷ 0 ∷ 16_000_000_000 ∷ []) ∷ [])
     × (onTheGround (withParts 5919 7) ≡ (40 ∷ 40 ∷ 80_000_000_000 ∷ 320_000_000_000 ∷ []) ∷ (70 ∷ 70 ∷ 0 ∷ 320_000_000_000 ∷ []) ∷ [])
     × (onTheGround (withParts 8191 11) ≡ (40 ∷ 40 ∷ 40_000_000_000 ∷ 160_000_000_000 ∷ []) ∷ (70 ∷ 70 ∷ 0 ∷ 160_000_000_000 ∷ []) ∷ [])
-unfolding p1-scores scoring recordOf sixNumbers over quotientWith
+unfolding p1-scores scoring recordOf sixNumbers over
 left-over = (
   rw (p1-judged, p1-walls),
   rw (changed-judged .0, changed-walls .0),
@@ -345,43 +350,35 @@ left-over = (
   rw (changed-judged .4, changed-walls .4),
 )
 
--- The quotients of the best and the worst of the pairs above.
-abbrev three : ℕ → ℕ → ℕ → Quotient
-three hundredths remainder divisor = record { hundredths = hundredths; remainder = remainder; divisor = divisor }
+-- What P1, and the best and the worst of the pairs above, are scored by: what their records have beside each score.
+abbrev quotientAt : Record → ℕ → Quotient
+quotientAt found at =
+    record { hundredths = getD (found .hundredths) at 0; remainder = getD (found .remainders) at 0; divisor = getD (found .divisors) at 0 }
 
-sound-quotients :
-    (fullQuotient sound 1 1 ≡ three 131 23_220_000_000 29_880_000_000)
-    × (fullQuotient sound 1 2 ≡ three 200 24_000_000_000 29_880_000_000)
-    × (fullQuotient sound 2 1 ≡ three 350 3_500_000_000 9_990_000_000)
-    × (fullQuotient sound 2 2 ≡ three 250 2_500_000_000 9_990_000_000)
-unfolding sound-figures
-sound-quotients =
-    let held = holds 1 90 1 underTenDay 2048 (two-judged .0) in
-    (quotient-by-sums _ refl 1 1 (held .0), quotient-by-sums _ refl 1 2 (held .1), quotient-by-sums _ refl 2 1 (held .2), quotient-by-sums _ refl 2 2 (held .3))
-
-all-worse-quotients :
-    (fullQuotient allWorse 1 1 ≡ three 38 778_050_000_000 1_526_400_000_000)
-    × (fullQuotient allWorse 1 2 ≡ three 74 1_046_400_000_000 1_526_400_000_000)
-    × (fullQuotient allWorse 2 1 ≡ three 116 101_600_000_000 572_400_000_000)
-    × (fullQuotient allWorse 2 2 ≡ three 82 563_200_000_000 572_400_000_000)
-unfolding sound-figures
-all-worse-quotients =
-    let held = holds 2 100 2 tenDay 2056 (two-judged .6) in
-    (quotient-by-sums _ refl 1 1 (held .0), quotient-by-sums _ refl 1 2 (held .1), quotient-by-sums _ refl 2 1 (held .2), quotient-by-sums _ refl 2 2 (held .3))
-
-p1-quotients : (fullQuotient p1 1 1 ≡ three 47 352_000_000_000 384_000_000_000) × (fullQuotient p1 1 2 ≡ three 83 128_000_000_000 384_000_000_000)
-unfolding p1-scores quotientWith
+p1-quotients : (fullQuotient p1 1 1 ≡ quotientAt p1Record 0) × (fullQuotient p1 1 2 ≡ quotientAt p1Record 1)
+unfolding p1-scores
 p1-quotients = (rw p1-walls, rw p1-walls)
 
+-- The four of a house of two storeys.
+abbrev ScoredBy : List ℕ → Quotient → Quotient → Quotient → Quotient → Type 0
+ScoredBy house one two three four =
+    (fullQuotient house 1 1 ≡ one) × (fullQuotient house 1 2 ≡ two) × (fullQuotient house 2 1 ≡ three) × (fullQuotient house 2 2 ≡ four)
+
+sound-quotients : ScoredBy sound (quotientAt soundRecord 0) (quotientAt soundRecord 1) (quotientAt soundRecord 2) (quotientAt soundRecord 3)
+unfolding sound-figures
+sound-quotients = quotients-by-sums _ refl (holds 1 90 1 underTenDay 2048 (two-judged .0))
+
+all-worse-quotients : ScoredBy allWorse (quotientAt allWorseRecord 0) (quotientAt allWorseRecord 1) (quotientAt allWorseRecord 2) (quotientAt allWorseRecord 3)
+unfolding sound-figures
+all-worse-quotients = quotients-by-sums _ refl (holds 2 100 2 tenDay 2056 (two-judged .6))
+
 p1-record : recordOf p1 ≡ p1Record
-unfolding recordOf sixNumbers joined over houseVerdict leastScore scores leastOf verdict startedBy31May1981 wallRows first
-p1-record = rw (← limited-score, ← limited-score, p1-quotients .0, p1-quotients .1)
+unfolding recordOf sixNumbers joined over houseVerdict leastScore scores scoreWith leastOf verdict startedBy31May1981 wallRows first
+p1-record = rw (p1-quotients .0, p1-quotients .1)
 
 -- The record of a house of two storeys, by its quotients.
 module _ (house : List ℕ) (two-storeys : storeys house ≡ 2) {one two three four : Quotient} where
-  by-quotients :
-      (fullQuotient house 1 1 ≡ one) × (fullQuotient house 1 2 ≡ two) × (fullQuotient house 2 1 ≡ three) × (fullQuotient house 2 2 ≡ four)
-      → recordOf house
+  by-quotients : ScoredBy house one two three four → recordOf house
       ≡ record {
         scores = limited one ∷ limited two ∷ limited three ∷ limited four ∷ 0 ∷ 0 ∷ [];
         count = 4;
@@ -391,8 +388,8 @@ module _ (house : List ℕ) (two-storeys : storeys house ≡ 2) {one two three f
         remainders = one .remainder ∷ two .remainder ∷ three .remainder ∷ four .remainder ∷ 0 ∷ 0 ∷ [];
         divisors = one .divisor ∷ two .divisor ∷ three .divisor ∷ four .divisor ∷ 0 ∷ 0 ∷ [];
       }
-  unfolding recordOf sixNumbers joined over houseVerdict leastScore scores
-  by-quotients found = rw (two-storeys, ← limited-score, ← limited-score, ← limited-score, ← limited-score, found .0, found .1, found .2, found .3)
+  unfolding recordOf sixNumbers joined over houseVerdict leastScore scores scoreWith
+  by-quotients found = rw (two-storeys, found .0, found .1, found .2, found .3)
 
 -- The records of P1 and of the best and the worst of them, and where a record has the score of a storey and direction.
 pub worsened-records :

@@ -1,10 +1,11 @@
 -- What a house's record has beside each score: whole hundredths, remainder and divisor. Assumes nothing.
-use mathlib.Core.Path.{_≡_, sym}
+use mathlib.Core.Path.{_≡_}
 use mathlib.Core.List.{List}
 use Prim.Native.Nat.{ℕ, _+_, _*_, _<_, min}
 use native.Mathlib.Nat.{mul-pos}
 use lib.ListN.{getD}
 use Rattle.survey.specs.Judgement.{judging}
+use Rattle.method.specs.Score.{score}
 use Rattle.method.proofs.Theorems.{score-divided, remainder-smaller}
 use Rattle.diagnosis.specs.declared.scores.Scoring.{Scoring}
 use Rattle.diagnosis.specs.House.{InHouse, held, required, layout, deterioration, strengthsWith, scoreWith, quotientWith, fullScore, fullQuotient}
@@ -24,12 +25,12 @@ Divided table storey direction score hundredths remainder divisor =
 
 module _ (table : List ℕ) (h : judging table .number ≡ 0) (storey direction : ℕ) (s : InHouse table storey direction) where
   -- The divisor is not 0.
-  divisor-some : 0 < required table storey * deterioration table .lower
+  pub divisor-some : 0 < required table storey * deterioration table .lower
   divisor-some = mul-pos (required-some table h (s .some-storey) (s .last-storey)) (lower-some table)
 
   quotient-divided : let found = fullQuotient table storey direction in
       Divided table storey direction (fullScore table storey direction) (found .hundredths) (found .remainder) (found .divisor)
-  unfolding quotientWith scoreWith
+  unfolding quotientWith scoreWith score
   quotient-divided =
       let strengths = strengthsWith table (held table storey direction) storey in
       let divided = score-divided strengths (layout table storey direction) (deterioration table) in

@@ -21,7 +21,7 @@ use Rattle.method.proofs.Fractions.{Bounded, deterioration-bounded}
 use Rattle.method.proofs.Comparisons.{verdict-most}
 use Rattle.diagnosis.specs.Rows.{itemsOf, age}
 use Rattle.diagnosis.specs.House.{layout, deterioration, fullScore, scores, leastOf, leastScore, assessment}
-use Rattle.diagnosis.specs.Report.{hundredths, resultRow, storeyRows, resultRows, verdictRow, reportRows, reportLines, reportBytes}
+use Rattle.diagnosis.specs.Report.{inHundredths, resultRow, storeyRows, resultRows, verdictRow, reportRows, reportLines, reportBytes}
 use Rattle.diagnosis.proofs.AcceptedTables.{storeys-few, required-within}
 use Rattle.diagnosis.proofs.Sums.{storey-held-most}
 use Rattle.diagnosis.proofs.ScoreLists.{score-small}
@@ -42,17 +42,17 @@ unfolding leastOf
 least-most [] = lit≤ tt
 least-most (one ∷ others) = omega (arith, least-most others)
 
-hundredths-most : (f : Fraction) → Bounded f → hundredths f ≤ 99_999_999
-hundredths-most f b = le-trans (div-le-self (100 * f .upper) (f .lower)) (omega (arith, b))
+in-hundredths-most : (f : Fraction) → Bounded f → inHundredths f ≤ 99_999_999
+in-hundredths-most f b = le-trans (div-le-self (100 * f .upper) (f .lower)) (omega (arith, b))
 
 module _ (table : List ℕ) (h : judging table .number ≡ 0) where
   layout-small : (storey direction : ℕ) → layout table storey direction ≤ 99_999_999
   unfolding layout
   layout-small storey direction = le-trans (layout-most _ _) (lit≤ tt)
 
-  factor-small : hundredths (deterioration table) ≤ 99_999_999
+  factor-small : inHundredths (deterioration table) ≤ 99_999_999
   unfolding deterioration
-  factor-small = hundredths-most _ (deterioration-bounded (itemsOf table) (age table))
+  factor-small = in-hundredths-most _ (deterioration-bounded (itemsOf table) (age table))
 
   result-small : (storey direction : ℕ) → 1 ≤ storey → storey ≤ storeys table → direction ≤ 2
       → Small (resultRow storey direction (assessment table storey direction) (deterioration table))

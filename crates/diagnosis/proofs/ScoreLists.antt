@@ -3,6 +3,7 @@ use mathlib.Core.Path.{_≡_, refl, sym, ap, _∙_}
 use mathlib.Core.Bool.{Bool, true, false, cond}
 use mathlib.Core.List.{List, [], _∷_, _++_}
 use Prim.Native.Nat.{ℕ, _+_, _*_, _<_, min, zero, suc, _-_, _/_, _%_, _≤_}
+use native.Mathlib.Nat.{min-le-right}
 use native.Mathlib.Numerals.{add-one}
 use native.Mathlib.Decide.{decLt}
 use native.Mathlib.Omega.{arith}
@@ -14,12 +15,11 @@ use Rattle.answer.proofs.Lists.{joined-length, joined-part, part-at}
 use Rattle.survey.specs.Table.{storeys}
 use Rattle.survey.specs.Judgement.{judging}
 use Rattle.survey.proofs.RefusalNumbers.{judging-by-number, judging-accepts}
-use Rattle.method.proofs.Comparisons.{score-most}
 use Rattle.diagnosis.specs.declared.scores.Outcome.{Outcome}
 use Rattle.diagnosis.specs.declared.scores.Outcome.the-variants.{Scored, Refused}
 use Rattle.diagnosis.specs.declared.scores.Record.{Record}
 use Rattle.diagnosis.specs.declared.scores.Scoring.{Scoring}
-use Rattle.diagnosis.specs.House.{InHouse, held, layout, deterioration, strengthsWith, scoreWith, fullScore, storeyByStorey, scores, leastOf, leastScore}
+use Rattle.diagnosis.specs.House.{InHouse, scoreWith, fullScore, fullQuotient, storeyByStorey, scores, leastOf, leastScore}
 use Rattle.diagnosis.specs.Answers.{noNumbers, sixNumbers, noRecord, ToldScoring, toldOutcome, toldScoring, recordOf, scoring}
 use Rattle.diagnosis.specs.Comparison.{scoreAt}
 use Rattle.diagnosis.proofs.AcceptedTables.{storeys-few}
@@ -149,8 +149,7 @@ score-at table i inside =
 
 pub score-small : (table : List ℕ) (storey direction : ℕ) → fullScore table storey direction ≤ 999
 unfolding scoreWith
-score-small table storey direction =
-    score-most (strengthsWith table (held table storey direction) storey) (layout table storey direction) (deterioration table)
+score-small table storey direction = min-le-right (fullQuotient table storey direction .hundredths) 999
 
 pub least-score-one : (table : List ℕ) → judging table .number ≡ 0
     → (storey : ℕ) × (direction : ℕ) × InHouse table storey direction × (leastScore table ≡ fullScore table storey direction)

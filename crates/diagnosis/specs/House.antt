@@ -18,7 +18,7 @@ use Rattle.method.specs.Held.{wallShare, heldStrength}
 use Rattle.method.specs.Required.{narrowFactor, requiredStrength}
 use Rattle.method.specs.LayoutFactor.{band, floorType, layoutFactor}
 use Rattle.method.specs.Deterioration.{deteriorationFactor}
-use Rattle.method.specs.Score.{quotient, score, scoreBeforeLayout, verdict}
+use Rattle.method.specs.Score.{quotient, limited, scoreBeforeLayout, verdict}
 use Rattle.diagnosis.specs.declared.assessment.Assessment.{Assessment}
 use Rattle.diagnosis.specs.Rows.{houseOf, storeyOf, storeyPart, endA, endB, endPart, wallDirection, wallPlace, wallOf, itemsOf, startOfWork, age}
 
@@ -116,19 +116,20 @@ strengthsWith table held storey = record { held = held; required = required tabl
 unfoldable pub scoreBefore : List ℕ → ℕ → ℕ → ℕ
 scoreBefore table storey direction = scoreBeforeLayout (strengthsWith table (held table storey direction) storey) (deterioration table)
 
--- The full score of a storey and direction, by a held strength that is given; and by what its own walls hold.
-unfoldable pub scoreWith : List ℕ → ℕ → ℕ → ℕ → ℕ
-scoreWith table held storey direction = score (strengthsWith table held storey) (layout table storey direction) (deterioration table)
-
-abbrev pub fullScore : List ℕ → ℕ → ℕ → ℕ
-fullScore table storey direction = scoreWith table (held table storey direction) storey direction
-
--- The full score before its limit, with what is left over: "the whole hundredths, the remainder and the divisor" (document 02, request 4).
+-- What a storey and direction is scored by: "the whole hundredths, the remainder and the divisor" (document 02, request 4), by a held strength that is
+-- given; and by what its own walls hold.
 unfoldable pub quotientWith : List ℕ → ℕ → ℕ → ℕ → Quotient
 quotientWith table held storey direction = quotient (strengthsWith table held storey) (layout table storey direction) (deterioration table)
 
 abbrev pub fullQuotient : List ℕ → ℕ → ℕ → Quotient
 fullQuotient table storey direction = quotientWith table (held table storey direction) storey direction
+
+-- And the full score, which is that, limited.
+unfoldable pub scoreWith : List ℕ → ℕ → ℕ → ℕ → ℕ
+scoreWith table held storey direction = limited (quotientWith table held storey direction)
+
+abbrev pub fullScore : List ℕ → ℕ → ℕ → ℕ
+fullScore table storey direction = scoreWith table (held table storey direction) storey direction
 
 -- A number for each storey and direction of a house: storey by storey from the ground up, in each "direction 1 (X) then 2 (Y)". Its scores.
 abbrev pub storeyByStorey : List ℕ → (ℕ → ℕ → ℕ) → List ℕ

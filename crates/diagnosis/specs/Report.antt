@@ -32,14 +32,14 @@ abbrev pub requiredUnit : ℕ
 requiredUnit = 10_000_000
 
 -- A fraction in hundredths.
-abbrev pub hundredths : Fraction → ℕ
-hundredths f = roundedDown (100 * f .upper) (f .lower)
+abbrev pub inHundredths : Fraction → ℕ
+inHundredths f = roundedDown (100 * f .upper) (f .lower)
 
 -- The row of a storey and direction, by what is worked out for it.
 abbrev pub resultRow : ℕ → ℕ → Assessment → Fraction → List ℕ
 resultRow storey direction found factor =
     6 ∷ storey ∷ direction ∷ roundedDown (found .held) heldUnit ∷ roundedUp (found .required) requiredUnit ∷ found .layout
-    ∷ hundredths factor ∷ found .score ∷ []
+    ∷ inHundredths factor ∷ found .score ∷ []
 
 abbrev pub storeyRows : List ℕ → ℕ → List ℕ
 storeyRows table storey =

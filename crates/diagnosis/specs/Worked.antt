@@ -1,4 +1,5 @@
--- The houses that the examples of this crate speak of: those of document 01, "Houses worked through", and pairs to which demand 3 applies.
+-- The houses that the examples of this crate speak of: those of document 01, "Houses worked through", houses and records with what is left over of a
+-- score (document 02, request 4), and pairs to which demand 3 applies.
 use mathlib.Core.List.{List, [], _∷_, _++_}
 use Prim.Native.Nat.{ℕ}
 use lib.ListN.{getD, set}

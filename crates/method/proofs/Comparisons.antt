@@ -2,7 +2,7 @@
 -- Assumes nothing.
 use mathlib.Core.Path.{_≡_}
 use mathlib.Core.Bool.{false}
-use Prim.Native.Nat.{ℕ, zero, suc, _*_, _/_, _<_, _≤_, zero-le, min, max}
+use Prim.Native.Nat.{ℕ, zero, suc, _*_, _/_, _<_, _≤_, zero-le, max}
 use native.Mathlib.Nat.{le-refl, le-trans, le-of-eq, mul-le-mul, mul-le-mul-left, mul-le-mul-right, mul-pos, mul-assoc, mul-comm, mul-left-comm, le-of-mul-le-mul-right, le-div-iff-mul-le, div-mul-le-self, div-zero, le-min, min-le-left, min-le-right}
 use native.Mathlib.Omega.{arith}
 use lib.Dec.{leb, lit≤}
@@ -62,10 +62,6 @@ pub full-score-falls : {all weaker a a' b b' : Strengths} (floor : ℕ) (f g : F
     → score weaker (layoutFactor (record { a = band a'; b = band b' }) floor) g ≤ score all (layoutFactor (record { a = band a; b = band b }) floor) f
 full-score-falls floor f g less a-less b-less falls kept needs hf =
     score-falls f g less (layout-falls _ _ floor (band-falls a-less) (band-falls b-less) kept) falls needs hf
-
-pub score-most : (strengths : Strengths) (layout : ℕ) (f : Fraction) → score strengths layout f ≤ 999
-unfolding score
-score-most strengths layout f = min-le-right (quotient strengths layout f .hundredths) 999
 
 -- The verdict's number is 1 to 4, and never falls when the least score falls.
 pub verdict-least : (least : ℕ) → 1 ≤ verdict least

@@ -1,5 +1,5 @@
--- The page's theorems on the cases of a joint factor, and on houses made worse, used at numbers that compute: with a further premise, a clause left
--- out, a turned conclusion or another number they would not fit here. Assumes nothing.
+-- The page's theorems on the cases of a joint factor, on houses made worse and on what is left over of a score, used at numbers that compute: with a
+-- further premise, a clause left out, a turned conclusion or another number they would not fit here. Assumes nothing.
 use mathlib.Core.Path.{_≡_, refl}
 use Prim.Native.Nat.{ℕ, _+_, _*_, _<_, _≤_}
 use lib.Dec.{lit<, lit≤}

@@ -16,7 +16,8 @@ dividend strengths layout deterioration = 1000 * strengths .held * layout * dete
 abbrev pub divisor : Strengths → Fraction → ℕ
 divisor strengths deterioration = strengths .required * deterioration .lower
 
--- "the whole hundredths, the remainder and the divisor", "before the limit of 999". By 0, as in no house, there are no hundredths, and all is left.
+-- "the whole hundredths, the remainder and the divisor", "before the limit of 999". Where the divisor is 0, as of no house, the hundredths are 0
+-- and all is left over.
 unfoldable pub quotient : Strengths → ℕ → Fraction → Quotient
 quotient strengths layout deterioration = record {
   hundredths = dividend strengths layout deterioration / divisor strengths deterioration;

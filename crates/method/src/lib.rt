@@ -2,7 +2,7 @@
 //
 // Uses no crate. Document 01, "Held strength" (joints, held), "Required strength" (required), "Layout
 // factor" (layout), "Deterioration factor" (deterioration) and "Score and verdict" (scores), with the
-// snow of document 02, request 1; the definitions stand in specs/, a file a section. 000's tables are
+// snow of document 02, request 1, and what is left over of a score, request 4; the definitions stand in specs/, a file a section. 000's tables are
 // const arrays in the module that uses them, those of joints in one of their own (joint_tables). Every
 // function open to callers takes any numbers, and a definition says what it
 // answers. The theorems, the laws for comparing two houses among them, are in proofs/Theorems.antt.

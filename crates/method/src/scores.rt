@@ -7,8 +7,8 @@ use crate::rows::Strengths;
 ghost use mathlib.Core.Path.{_≡_};
 ghost use Rattle.method.specs.Score.{cappedQuotient, limited, verdict};
 
-// A score before it is limited: hundredths × divisor + remainder is what was divided, and the remainder is
-// smaller than the divisor.
+// A score before it is limited: hundredths × divisor + remainder is what was divided, and of a house the
+// remainder is smaller than the divisor.
 pub struct Quotient {
     // The whole hundredths.
     pub hundredths: u64,
@@ -18,8 +18,8 @@ pub struct Quotient {
 }
 
 // The score of what is held and required, a layout factor in hundredths and a deterioration factor, with
-// what is left over. Strengths above 60,000 kN count as that. Where nothing is required, as in no house,
-// nothing is divided and all is left over.
+// what is left over. Strengths above 60,000 kN count as that. Where the divisor is 0, as of no house, the
+// hundredths are 0 and all is left over.
 pub fn score(strengths: Strengths, layout: u8, deterioration: Fraction) -> Quotient
     ensures { λ r. ⌜ r ≡ cappedQuotient strengths layout deterioration ⌝ }
 {

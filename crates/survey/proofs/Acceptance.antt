@@ -21,7 +21,7 @@ use Rattle.answer.proofs.Lengths.{rows-whole}
 use Rattle.calendar.specs.Days.{isDay}
 use Rattle.survey.specs.Table.{cell, storeys, endsStorey, firstWall, wallRows, partsRow, datesRow, rowsDue}
 use Rattle.survey.specs.Ranges.{zone, houseColumns, storeyColumns, endsColumns, wallColumns, partsColumns, datesColumns}
-use Rattle.survey.specs.Judgement.{fault, none, faulty, test, _then_, columnsFault, houseFault, storeyFault, endsFault, storeyBefore, wallFault, within, partsFault, noSuchDay, daysFault, orderFault, datesFault, rowFault, judging}
+use Rattle.survey.specs.Judgement.{fault, none, faulty, test, columnsFault, houseFault, storeyFault, endsFault, storeyBefore, wallFault, within, partsFault, noSuchDay, daysFault, orderFault, datesFault, rowFault, judging}
 use Rattle.survey.specs.Acceptance.{Inside, Accepted}
 use Rattle.survey.specs.Internal.{JudgedTo}
 use Rattle.survey.proofs.Faults.{not-faulty}

@@ -1,9 +1,8 @@
 -- `diagnosis::assessment::assess` meets its contract. Assumes nothing.
 use mathlib.Core.Path.{_≡_, _∙_}
-use native.Mathlib.Omega.{arith}
 use denote.Ref.{now}
-use Rattle.diagnosis.specs.House.{narrow, requiredOf, required, storeyFloorType, layout}
-use Rattle.diagnosis.proofs.Assessments.{quotient-is, limited-score}
+use Rattle.diagnosis.specs.House.{narrow, requiredOf, required, storeyFloorType, layout, scoreWith}
+use Rattle.diagnosis.proofs.Assessments.{quotient-is}
 use borrow.Author.Needs.{needs}
 use Rattle.diagnosis.proofs.assessment.assess.Statement.{statement}
 use Rattle.diagnosis.proofs.assessment.assess.Tie as tie
@@ -68,6 +67,7 @@ limited-requires : tie.Need-limited-requires
 limited-requires c κs = search needs
 
 returns : tie.Need-returns
+unfolding scoreWith
 returns c =
     let at-score = c .before in
     let at-required = at-score .before .before .before .before .before in
@@ -80,7 +80,6 @@ returns c =
       layout-is (at-score .before),
       start .pre .factor-is,
       quotient-is _ (start .pre .house-of .stands .accepted) _ _ (here .some-storey) (here .last-storey) (start .pre .sums-fit .most),
-      limited-score,
     )
 
 pub assess-spec : {M : Type 1} → statement M
