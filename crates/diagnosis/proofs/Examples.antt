@@ -317,47 +317,57 @@ pub weak-joints-figures :
 unfolding sound-figures
 weak-joints-figures = (by-sums _ refl (snowy-hold .2), by-sums _ refl (snowy-hold .3))
 
--- Scores with what is left over: P1; P1 with a small floor; P1 without marks at 99 and at 100; 14 of 20 points; and 16 of 24, which is under 7/10.
-abbrev Judged12 : List ℕ → Type 0
-Judged12 table = judging table ≡ counted 12
+-- What a house is scored by on the ground, in X and in Y. Of P1 that is what its record has beside each score.
+abbrev ScoredOnTheGround : List ℕ → Quotient → Quotient → Type 0
+ScoredOnTheGround house x y = (fullQuotient house 1 1 ≡ x) × (fullQuotient house 1 2 ≡ y)
 
-changed-judged : Judged12 smallFloor × Judged12 (withMiddleWall 3999) × Judged12 (withMiddleWall 4000) × Judged12 (withParts 5919 7) × Judged12 (withParts 8191 11)
-unfolding p10-judged
-changed-judged = (refl, refl, refl, refl, refl)
-
--- The walls of such a house, and from them all that is on the ground.
-abbrev OneStoreyWalls : List ℕ → Type 0
-OneStoreyWalls table = storeyWalls table 1 ≡ rowsFrom table 4 6
-
-changed-walls : OneStoreyWalls smallFloor × OneStoreyWalls (withMiddleWall 3999) × OneStoreyWalls (withMiddleWall 4000) × OneStoreyWalls (withParts 5919 7) × OneStoreyWalls (withParts 8191 11)
-unfolding p1-walls
-changed-walls = (rw (changed-judged .0), rw (changed-judged .1), rw (changed-judged .2), rw (changed-judged .3), rw (changed-judged .4))
-
-pub left-over :
-    (onTheGround p1 ≡ (47 ∷ 47 ∷ 352_000_000_000 ∷ 384_000_000_000 ∷ []) ∷ (83 ∷ 83 ∷ 128_000_000_000 ∷ 384_000_000_000 ∷ []) ∷ [])
-    × (onTheGround smallFloor ≡ (999 ∷ 4791 ∷ 2_560_000_000 ∷ 3_840_000_000 ∷ []) ∷ (999 ∷ 8333 ∷ 1_280_000_000 ∷ 3_840_000_000 ∷ []) ∷ [])
-    × (onTheGround (withMiddleWall 3999) ≡ (57 ∷ 57 ∷ 8_000_000_000 ∷ 16_000_000_000 ∷ []) ∷ (99 ∷ 99 ∷ 15_800_000_000 ∷ 16_000_000_000 ∷ []) ∷ [])
-    × (onTheGround (withMiddleWall 4000) ≡ (57 ∷ 57 ∷ 8_000_000_000 ∷ 16_000_000_000 ∷ []) ∷ (100 ∷ 100 ∷ 0 ∷ 16_000_000_000 ∷ []) ∷ [])
-    × (onTheGround (withParts 5919 7) ≡ (40 ∷ 40 ∷ 80_000_000_000 ∷ 320_000_000_000 ∷ []) ∷ (70 ∷ 70 ∷ 0 ∷ 320_000_000_000 ∷ []) ∷ [])
-    × (onTheGround (withParts 8191 11) ≡ (40 ∷ 40 ∷ 40_000_000_000 ∷ 160_000_000_000 ∷ []) ∷ (70 ∷ 70 ∷ 0 ∷ 160_000_000_000 ∷ []) ∷ [])
-unfolding p1-scores scoring recordOf sixNumbers over
-left-over = (
-  rw (p1-judged, p1-walls),
-  rw (changed-judged .0, changed-walls .0),
-  rw (changed-judged .1, changed-walls .1),
-  rw (changed-judged .2, changed-walls .2),
-  rw (changed-judged .3, changed-walls .3),
-  rw (changed-judged .4, changed-walls .4),
-)
-
--- What P1, and the best and the worst of the pairs above, are scored by: what their records have beside each score.
 abbrev quotientAt : Record → ℕ → Quotient
 quotientAt found at =
     record { hundredths = getD (found .hundredths) at 0; remainder = getD (found .remainders) at 0; divisor = getD (found .divisors) at 0 }
 
-p1-quotients : (fullQuotient p1 1 1 ≡ quotientAt p1Record 0) × (fullQuotient p1 1 2 ≡ quotientAt p1Record 1)
+pub p1-quotients : ScoredOnTheGround p1 (quotientAt p1Record 0) (quotientAt p1Record 1)
 unfolding p1-scores
 p1-quotients = (rw p1-walls, rw p1-walls)
+
+-- P1's house with a number changed: with a small floor; without marks, at 99 and at 100; with 14 of 20 points, and with 16 of 24, which is under 7/10.
+-- Each is accepted and has its six walls.
+abbrev Changed : (List ℕ → Type 0) → Type 0
+Changed holds = holds smallFloor × holds (withMiddleWall 3999) × holds (withMiddleWall 4000) × holds (withParts 5919 7) × holds (withParts 8191 11)
+
+pub changed-judged : Changed (λ house. judging house ≡ counted 12)
+unfolding p10-judged
+changed-judged = (refl, refl, refl, refl, refl)
+
+changed-walls : Changed (λ house. storeyWalls house 1 ≡ rowsFrom house 4 6)
+unfolding p1-walls
+changed-walls = (rw (changed-judged .0), rw (changed-judged .1), rw (changed-judged .2), rw (changed-judged .3), rw (changed-judged .4))
+
+-- What such a house is scored by, and so what its record has on the ground.
+abbrev divided : ℕ → ℕ → ℕ → Quotient
+divided hundredths remainder divisor = record { hundredths = hundredths; remainder = remainder; divisor = divisor }
+
+pub changed-quotients :
+    ScoredOnTheGround smallFloor (divided 4791 2_560_000_000 3_840_000_000) (divided 8333 1_280_000_000 3_840_000_000)
+    × ScoredOnTheGround (withMiddleWall 3999) (divided 57 8_000_000_000 16_000_000_000) (divided 99 15_800_000_000 16_000_000_000)
+    × ScoredOnTheGround (withMiddleWall 4000) (divided 57 8_000_000_000 16_000_000_000) (divided 100 0 16_000_000_000)
+    × ScoredOnTheGround (withParts 5919 7) (divided 40 80_000_000_000 320_000_000_000) (divided 70 0 320_000_000_000)
+    × ScoredOnTheGround (withParts 8191 11) (divided 40 40_000_000_000 160_000_000_000) (divided 70 0 160_000_000_000)
+unfolding p1-scores
+changed-quotients = (
+  (rw (changed-walls .0), rw (changed-walls .0)),
+  (rw (changed-walls .1), rw (changed-walls .1)),
+  (rw (changed-walls .2), rw (changed-walls .2)),
+  (rw (changed-walls .3), rw (changed-walls .3)),
+  (rw (changed-walls .4), rw (changed-walls .4)),
+)
+
+abbrev recorded : Quotient → List ℕ
+recorded found = limited found ∷ found .hundredths ∷ found .remainder ∷ found .divisor ∷ []
+
+pub on-the-ground : (house : List ℕ) → storeys house ≡ 1 → judging house ≡ counted 12 → {x y : Quotient} → ScoredOnTheGround house x y
+    → onTheGround house ≡ recorded x ∷ recorded y ∷ []
+unfolding scoring recordOf sixNumbers joined over scoreWith
+on-the-ground house one accepted found = rw (accepted, one, found .0, found .1)
 
 -- The four of a house of two storeys.
 abbrev ScoredBy : List ℕ → Quotient → Quotient → Quotient → Quotient → Type 0
