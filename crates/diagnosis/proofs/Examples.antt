@@ -1,7 +1,7 @@
 -- Document 01's houses worked through, from P1's sheet to its report, by computation. Assumes nothing.
 use mathlib.Core.Path.{_≡_, refl}
 use mathlib.Core.List.{List, [], _∷_}
-use Prim.Native.Nat.{ℕ, _+_, _≤_, max}
+use Prim.Native.Nat.{ℕ, _+_, _*_, _≤_, max}
 use native.Mathlib.Nat.{le-refl}
 use lib.Dec.{lit≤}
 use lib.ListN.{getD, set, take, replicate}
@@ -41,7 +41,7 @@ use Rattle.diagnosis.specs.Answers.{toldOutcome, sixNumbers, noRecord, r
 use Rattle.diagnosis.specs.Comparison.{scoreAt}
 use Rattle.diagnosis.specs.Report.{resultRows, reportRows, reportBytes, reporting, refusalLine}
 use Rattle.diagnosis.specs.Program.{mostNumbers, tableOf, diagnosing, afterDiagnosing, mostReportBytes, output}
-use Rattle.diagnosis.specs.Worked.{p1Report, p1Record, soundRecord, allWorseRecord, smallFloor, withParts, withMiddleWall, onTheGround, p10, underTenDay, tenDay, sound, heavy, zone100, softGround, overTen, moreMarks, allWorse, startedOn, underSnow, snowySound, snowyWorse, weakJoints, figures, sameBands}
+use Rattle.diagnosis.specs.Worked.{p1Report, p1Record, soundRecord, allWorseRecord, likeP1, smallFloor, withParts, withMiddleWall, onTheGround, p10, underTenDay, tenDay, sound, heavy, zone100, softGround, overTen, moreMarks, allWorse, startedOn, underSnow, snowySound, snowyWorse, weakJoints, figures, sameBands}
 
 -- P1's sheet can be read, and is P1's table.
 p1-read : reading p1Sheet mostNumbers ≡ counted 12
@@ -160,9 +160,9 @@ two-judged = (
   in-range 2 100 2 tenDay 2056 (lit≤ tt) (lit≤ tt) (zones-known .3) (lit≤ tt) (lit≤ tt) (surveyed .1) (lit≤ tt),
 )
 
--- The figures of a house of two storeys, by what its walls hold in each place, in all and at the ends.
-module _ (house : List ℕ) (two-storeys : storeys house ≡ 2) where
-  -- A place's band of an end, higher band, score and score before the layout factor, by what is held there.
+-- What is worked out for a place of a house, by what its walls hold there, in all and at the ends.
+module _ (house : List ℕ) where
+  -- A place's band of an end, higher band, layout factor, what it is scored by, score, and score before the layout factor.
   abbrev bandBy : ℕ → ℕ → ℕ → ℕ → ℕ
   bandBy storey direction end holding = band (record { held = holding; required = endRequired house storey direction end })
 
@@ -173,41 +173,38 @@ module _ (house : List ℕ) (two-storeys : storeys house ≡ 2) where
   layoutBy storey direction sums =
       layoutFactor (record { a = bandBy storey direction endA (sums .a); b = bandBy storey direction endB (sums .b) }) (storeyFloorType house storey)
 
-  abbrev fullBy : ℕ → ℕ → HeldSums → ℕ
-  fullBy storey direction sums = score (strengthsWith house (sums .all) storey) (layoutBy storey direction sums) (deterioration house)
-
   abbrev quotientBy : ℕ → ℕ → HeldSums → Quotient
   quotientBy storey direction sums = quotient (strengthsWith house (sums .all) storey) (layoutBy storey direction sums) (deterioration house)
+
+  abbrev fullBy : ℕ → ℕ → HeldSums → ℕ
+  fullBy storey direction sums = limited (quotientBy storey direction sums)
 
   abbrev beforeBy : ℕ → HeldSums → ℕ
   beforeBy storey sums = scoreBeforeLayout (strengthsWith house (sums .all) storey) (deterioration house)
 
-  by-sums : {one two three four : HeldSums}
-      → (heldSums house 1 1 ≡ one) × (heldSums house 1 2 ≡ two) × (heldSums house 2 1 ≡ three) × (heldSums house 2 2 ≡ four)
-      → figures house
-      ≡ (fullBy 1 1 one ∷ fullBy 1 2 two ∷ fullBy 2 1 three ∷ fullBy 2 2 four ∷ [])
-      ∷ (beforeBy 1 one ∷ beforeBy 1 two ∷ beforeBy 2 three ∷ beforeBy 2 four ∷ [])
-      ∷ (higherBy 1 1 one ∷ higherBy 1 2 two ∷ higherBy 2 1 three ∷ higherBy 2 2 four ∷ [])
-      ∷ []
-  unfolding scores joined scoreWith quotientWith score scoreBefore layout higherBand endBand
-  by-sums holds =
-      rw two-storeys (
-      λ i.
-      (fullBy 1 1 (holds .0 i) ∷ fullBy 1 2 (holds .1 i) ∷ fullBy 2 1 (holds .2 i) ∷ fullBy 2 2 (holds .3 i) ∷ [])
-      ∷ (beforeBy 1 (holds .0 i) ∷ beforeBy 1 (holds .1 i) ∷ beforeBy 2 (holds .2 i) ∷ beforeBy 2 (holds .3 i) ∷ [])
-      ∷ (higherBy 1 1 (holds .0 i) ∷ higherBy 1 2 (holds .1 i) ∷ higherBy 2 1 (holds .2 i) ∷ higherBy 2 2 (holds .3 i) ∷ [])
-      ∷ []
-      )
-
-  quotients-by-sums : {one two three four : HeldSums}
-      → (heldSums house 1 1 ≡ one) × (heldSums house 1 2 ≡ two) × (heldSums house 2 1 ≡ three) × (heldSums house 2 2 ≡ four)
-      → (fullQuotient house 1 1 ≡ quotientBy 1 1 one)
-      × (fullQuotient house 1 2 ≡ quotientBy 1 2 two)
-      × (fullQuotient house 2 1 ≡ quotientBy 2 1 three)
-      × (fullQuotient house 2 2 ≡ quotientBy 2 2 four)
+  quotient-by-sums : (storey direction : ℕ) {sums : HeldSums} → heldSums house storey direction ≡ sums
+      → fullQuotient house storey direction ≡ quotientBy storey direction sums
   unfolding quotientWith layout endBand
-  quotients-by-sums holds =
-      ((λ i. quotientBy 1 1 (holds .0 i)), (λ i. quotientBy 1 2 (holds .1 i)), (λ i. quotientBy 2 1 (holds .2 i)), (λ i. quotientBy 2 2 (holds .3 i)))
+  quotient-by-sums storey direction holds = λ i. quotientBy storey direction (holds i)
+
+  -- The figures of a house of two storeys.
+  module _ (two-storeys : storeys house ≡ 2) where
+    by-sums : {one two three four : HeldSums}
+        → (heldSums house 1 1 ≡ one) × (heldSums house 1 2 ≡ two) × (heldSums house 2 1 ≡ three) × (heldSums house 2 2 ≡ four)
+        → figures house
+        ≡ (fullBy 1 1 one ∷ fullBy 1 2 two ∷ fullBy 2 1 three ∷ fullBy 2 2 four ∷ [])
+        ∷ (beforeBy 1 one ∷ beforeBy 1 two ∷ beforeBy 2 three ∷ beforeBy 2 four ∷ [])
+        ∷ (higherBy 1 1 one ∷ higherBy 1 2 two ∷ higherBy 2 1 three ∷ higherBy 2 2 four ∷ [])
+        ∷ []
+    unfolding scores joined scoreWith quotientWith scoreBefore layout higherBand endBand
+    by-sums holds =
+        rw two-storeys (
+        λ i.
+        (fullBy 1 1 (holds .0 i) ∷ fullBy 1 2 (holds .1 i) ∷ fullBy 2 1 (holds .2 i) ∷ fullBy 2 2 (holds .3 i) ∷ [])
+        ∷ (beforeBy 1 (holds .0 i) ∷ beforeBy 1 (holds .1 i) ∷ beforeBy 2 (holds .2 i) ∷ beforeBy 2 (holds .3 i) ∷ [])
+        ∷ (higherBy 1 1 (holds .0 i) ∷ higherBy 1 2 (holds .1 i) ∷ higherBy 2 1 (holds .2 i) ∷ higherBy 2 2 (holds .3 i) ∷ [])
+        ∷ []
+        )
 
 -- What is held in all, at end a and at end b.
 abbrev sums : ℕ → ℕ → ℕ → HeldSums
@@ -317,57 +314,77 @@ pub weak-joints-figures :
 unfolding sound-figures
 weak-joints-figures = (by-sums _ refl (snowy-hold .2), by-sums _ refl (snowy-hold .3))
 
--- What a house is scored by on the ground, in X and in Y. Of P1 that is what its record has beside each score.
-abbrev ScoredOnTheGround : List ℕ → Quotient → Quotient → Type 0
-ScoredOnTheGround house x y = (fullQuotient house 1 1 ≡ x) × (fullQuotient house 1 2 ≡ y)
+-- What a house like P1 holds in X, and in Y, by the length of its middle wall there; and what a record has for a place.
+abbrev heldInX : HeldSums
+heldInX = sums 9_200_000 4_000_000 4_000_000
 
-abbrev quotientAt : Record → ℕ → Quotient
-quotientAt found at =
-    record { hundredths = getD (found .hundredths) at 0; remainder = getD (found .remainders) at 0; divisor = getD (found .divisors) at 0 }
-
-pub p1-quotients : ScoredOnTheGround p1 (quotientAt p1Record 0) (quotientAt p1Record 1)
-unfolding p1-scores
-p1-quotients = (rw p1-walls, rw p1-walls)
-
--- P1's house with a number changed: with a small floor; without marks, at 99 and at 100; with 14 of 20 points, and with 16 of 24, which is under 7/10.
--- Each is accepted and has its six walls.
-abbrev Changed : (List ℕ → Type 0) → Type 0
-Changed holds = holds smallFloor × holds (withMiddleWall 3999) × holds (withMiddleWall 4000) × holds (withParts 5919 7) × holds (withParts 8191 11)
-
-pub changed-judged : Changed (λ house. judging house ≡ counted 12)
-unfolding p10-judged
-changed-judged = (refl, refl, refl, refl, refl)
-
-changed-walls : Changed (λ house. storeyWalls house 1 ≡ rowsFrom house 4 6)
-unfolding p1-walls
-changed-walls = (rw (changed-judged .0), rw (changed-judged .1), rw (changed-judged .2), rw (changed-judged .3), rw (changed-judged .4))
-
--- What such a house is scored by, and so what its record has on the ground.
-abbrev divided : ℕ → ℕ → ℕ → Quotient
-divided hundredths remainder divisor = record { hundredths = hundredths; remainder = remainder; divisor = divisor }
-
-pub changed-quotients :
-    ScoredOnTheGround smallFloor (divided 4791 2_560_000_000 3_840_000_000) (divided 8333 1_280_000_000 3_840_000_000)
-    × ScoredOnTheGround (withMiddleWall 3999) (divided 57 8_000_000_000 16_000_000_000) (divided 99 15_800_000_000 16_000_000_000)
-    × ScoredOnTheGround (withMiddleWall 4000) (divided 57 8_000_000_000 16_000_000_000) (divided 100 0 16_000_000_000)
-    × ScoredOnTheGround (withParts 5919 7) (divided 40 80_000_000_000 320_000_000_000) (divided 70 0 320_000_000_000)
-    × ScoredOnTheGround (withParts 8191 11) (divided 40 40_000_000_000 160_000_000_000) (divided 70 0 160_000_000_000)
-unfolding p1-scores
-changed-quotients = (
-  (rw (changed-walls .0), rw (changed-walls .0)),
-  (rw (changed-walls .1), rw (changed-walls .1)),
-  (rw (changed-walls .2), rw (changed-walls .2)),
-  (rw (changed-walls .3), rw (changed-walls .3)),
-  (rw (changed-walls .4), rw (changed-walls .4)),
-)
+abbrev heldInY : ℕ → HeldSums
+heldInY middle = sums (4_000_000 + 2000 * middle + 4_000_000) 4_000_000 4_000_000
 
 abbrev recorded : Quotient → List ℕ
 recorded found = limited found ∷ found .hundredths ∷ found .remainder ∷ found .divisor ∷ []
 
-pub on-the-ground : (house : List ℕ) → storeys house ≡ 1 → judging house ≡ counted 12 → {x y : Quotient} → ScoredOnTheGround house x y
-    → onTheGround house ≡ recorded x ∷ recorded y ∷ []
-unfolding scoring recordOf sixNumbers joined over scoreWith
-on-the-ground house one accepted found = rw (accepted, one, found .0, found .1)
+-- A house like P1, accepted: its walls, and what they hold.
+module _ (area end middle present marked : ℕ) (accepted : judging (likeP1 area end middle present marked) ≡ counted 12) where
+  abbrev like : List ℕ
+  like = likeP1 area end middle present marked
+
+  walls-like-p1 : storeyWalls like 1 ≡ rowsFrom like 4 6
+  unfolding p1-walls
+  walls-like-p1 = rw accepted
+
+  held-like-p1 : (heldSums like 1 1 ≡ heldInX) × (heldSums like 1 2 ≡ heldInY middle)
+  unfolding p1-scores
+  held-like-p1 = (rw walls-like-p1, rw walls-like-p1)
+
+  -- So what it is scored by, in X and in Y, and what its record has on the ground.
+  scored-like-p1 :
+      (fullQuotient like 1 1 ≡ quotientBy like 1 1 heldInX)
+      × (fullQuotient like 1 2 ≡ quotientBy like 1 2 (heldInY middle))
+  scored-like-p1 =
+      (quotient-by-sums like 1 1 (held-like-p1 .0), quotient-by-sums like 1 2 (held-like-p1 .1))
+
+  on-the-ground : onTheGround like
+      ≡ recorded (quotientBy like 1 1 heldInX) ∷ recorded (quotientBy like 1 2 (heldInY middle)) ∷ []
+  unfolding scoring recordOf sixNumbers joined over scoreWith
+  on-the-ground = rw (accepted, scored-like-p1 .0, scored-like-p1 .1)
+
+-- P1 and its house with a number changed: with a small floor; without marks, at 99 and at 100; with 14 of 20 points, and with 16 of 24, which is under
+-- 7/10.
+changed-judged :
+    (judging smallFloor ≡ counted 12)
+    × (judging (withMiddleWall 3999) ≡ counted 12)
+    × (judging (withMiddleWall 4000) ≡ counted 12)
+    × (judging (withParts 5919 7) ≡ counted 12)
+    × (judging (withParts 8191 11) ≡ counted 12)
+unfolding p10-judged
+changed-judged = (refl, refl, refl, refl, refl)
+
+pub left-over :
+    (onTheGround p1 ≡ (47 ∷ 47 ∷ 352_000_000_000 ∷ 384_000_000_000 ∷ []) ∷ (83 ∷ 83 ∷ 128_000_000_000 ∷ 384_000_000_000 ∷ []) ∷ [])
+    × (onTheGround smallFloor ≡ (999 ∷ 4791 ∷ 2_560_000_000 ∷ 3_840_000_000 ∷ []) ∷ (999 ∷ 8333 ∷ 1_280_000_000 ∷ 3_840_000_000 ∷ []) ∷ [])
+    × (onTheGround (withMiddleWall 3999) ≡ (57 ∷ 57 ∷ 8_000_000_000 ∷ 16_000_000_000 ∷ []) ∷ (99 ∷ 99 ∷ 15_800_000_000 ∷ 16_000_000_000 ∷ []) ∷ [])
+    × (onTheGround (withMiddleWall 4000) ≡ (57 ∷ 57 ∷ 8_000_000_000 ∷ 16_000_000_000 ∷ []) ∷ (100 ∷ 100 ∷ 0 ∷ 16_000_000_000 ∷ []) ∷ [])
+    × (onTheGround (withParts 5919 7) ≡ (40 ∷ 40 ∷ 80_000_000_000 ∷ 320_000_000_000 ∷ []) ∷ (70 ∷ 70 ∷ 0 ∷ 320_000_000_000 ∷ []) ∷ [])
+    × (onTheGround (withParts 8191 11) ≡ (40 ∷ 40 ∷ 40_000_000_000 ∷ 160_000_000_000 ∷ []) ∷ (70 ∷ 70 ∷ 0 ∷ 160_000_000_000 ∷ []) ∷ [])
+unfolding sound-figures
+left-over = (
+  on-the-ground 4000 1000 4000 8191 8 p1-judged,
+  on-the-ground 40 10 4000 8191 8 (changed-judged .0),
+  on-the-ground 4000 1000 3999 8191 0 (changed-judged .1),
+  on-the-ground 4000 1000 4000 8191 0 (changed-judged .2),
+  on-the-ground 4000 1000 4000 5919 7 (changed-judged .3),
+  on-the-ground 4000 1000 4000 8191 11 (changed-judged .4),
+)
+
+-- What P1 is scored by: what its record has beside each score.
+abbrev quotientAt : Record → ℕ → Quotient
+quotientAt found at =
+    record { hundredths = getD (found .hundredths) at 0; remainder = getD (found .remainders) at 0; divisor = getD (found .divisors) at 0 }
+
+p1-quotients : (fullQuotient p1 1 1 ≡ quotientAt p1Record 0) × (fullQuotient p1 1 2 ≡ quotientAt p1Record 1)
+unfolding sound-figures
+p1-quotients = scored-like-p1 4000 1000 4000 8191 8 p1-judged
 
 -- The four of a house of two storeys.
 abbrev ScoredBy : List ℕ → Quotient → Quotient → Quotient → Quotient → Type 0
@@ -376,11 +393,15 @@ ScoredBy house one two three four =
 
 sound-quotients : ScoredBy sound (quotientAt soundRecord 0) (quotientAt soundRecord 1) (quotientAt soundRecord 2) (quotientAt soundRecord 3)
 unfolding sound-figures
-sound-quotients = quotients-by-sums _ refl (holds 1 90 1 underTenDay 2048 (two-judged .0))
+sound-quotients =
+    let held = holds 1 90 1 underTenDay 2048 (two-judged .0) in
+    (quotient-by-sums _ 1 1 (held .0), quotient-by-sums _ 1 2 (held .1), quotient-by-sums _ 2 1 (held .2), quotient-by-sums _ 2 2 (held .3))
 
 all-worse-quotients : ScoredBy allWorse (quotientAt allWorseRecord 0) (quotientAt allWorseRecord 1) (quotientAt allWorseRecord 2) (quotientAt allWorseRecord 3)
 unfolding sound-figures
-all-worse-quotients = quotients-by-sums _ refl (holds 2 100 2 tenDay 2056 (two-judged .6))
+all-worse-quotients =
+    let held = holds 2 100 2 tenDay 2056 (two-judged .6) in
+    (quotient-by-sums _ 1 1 (held .0), quotient-by-sums _ 1 2 (held .1), quotient-by-sums _ 2 1 (held .2), quotient-by-sums _ 2 2 (held .3))
 
 p1-record : recordOf p1 ≡ p1Record
 unfolding recordOf sixNumbers joined over houseVerdict leastScore scores scoreWith leastOf verdict startedBy31May1981 wallRows first

@@ -1,6 +1,6 @@
 -- The theorems about a house's diagnosis, in the order of document 01. Each is proved where it is cited from; the words of its statement are
 -- defined in specs/. Assumes nothing.
-use mathlib.Core.Path.{_≡_, refl}
+use mathlib.Core.Path.{_≡_}
 use mathlib.Core.Bool.{true, false}
 use mathlib.Core.List.{List, [], _∷_}
 use Prim.Native.Nat.{ℕ, _+_, _*_, _<_, _≤_, min}
@@ -16,7 +16,6 @@ use Rattle.answer.specs.Lists.{over}
 use Rattle.sheet.specs.Sheet.{writing, afterWriting}
 use Rattle.survey.specs.Table.{cell, storeys}
 use Rattle.survey.specs.Judgement.{judging, within}
-use Rattle.survey.proofs.Examples.{p1-judged}
 use Rattle.method.specs.Worked.{worked, expected}
 use Rattle.diagnosis.specs.declared.scores.Outcome.the-variants.{Scored, Refused}
 use Rattle.diagnosis.specs.declared.scores.Scoring.{Scoring}
@@ -73,16 +72,7 @@ pub left-over :
     × (onTheGround (withMiddleWall 4000) ≡ (57 ∷ 57 ∷ 8_000_000_000 ∷ 16_000_000_000 ∷ []) ∷ (100 ∷ 100 ∷ 0 ∷ 16_000_000_000 ∷ []) ∷ [])
     × (onTheGround (withParts 5919 7) ≡ (40 ∷ 40 ∷ 80_000_000_000 ∷ 320_000_000_000 ∷ []) ∷ (70 ∷ 70 ∷ 0 ∷ 320_000_000_000 ∷ []) ∷ [])
     × (onTheGround (withParts 8191 11) ≡ (40 ∷ 40 ∷ 40_000_000_000 ∷ 160_000_000_000 ∷ []) ∷ (70 ∷ 70 ∷ 0 ∷ 160_000_000_000 ∷ []) ∷ [])
-left-over =
-    let accepted = examples.changed-judged in
-    let scored = examples.changed-quotients in (
-      examples.on-the-ground p1 refl p1-judged examples.p1-quotients,
-      examples.on-the-ground smallFloor refl (accepted .0) (scored .0),
-      examples.on-the-ground (withMiddleWall 3999) refl (accepted .1) (scored .1),
-      examples.on-the-ground (withMiddleWall 4000) refl (accepted .2) (scored .2),
-      examples.on-the-ground (withParts 5919 7) refl (accepted .3) (scored .3),
-      examples.on-the-ground (withParts 8191 11) refl (accepted .4) (scored .4),
-    )
+left-over = examples.left-over
 
 -- A table is scored just where the refusal's number is 0, so a host can tell by the number.
 pub scored-by-number : (table : List ℕ) → scoring table .scored ≡ eqb (scoring table .number) 0

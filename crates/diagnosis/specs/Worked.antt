@@ -4,7 +4,7 @@ use mathlib.Core.List.{List, [], _∷_, _++_}
 use Prim.Native.Nat.{ℕ}
 use lib.ListN.{getD, set}
 use Rattle.answer.specs.Text.{bytes}
-use Rattle.answer.specs.Houses.{p1, twoStoreys}
+use Rattle.answer.specs.Houses.{twoStoreys}
 use Rattle.diagnosis.specs.declared.scores.Record.{Record}
 use Rattle.diagnosis.specs.Rows.{snowColumn}
 use Rattle.diagnosis.specs.House.{higherBand, scoreBefore, scores}
@@ -29,17 +29,34 @@ p1Record = record {
   divisors = 384_000_000_000 ∷ 384_000_000_000 ∷ 0 ∷ 0 ∷ 0 ∷ 0 ∷ [];
 }
 
--- P1's house with 0.4 m² of floor and ends of 0.1 m² each, so that its scores would be above 999;
+-- P1's house by its floor area, the area of each end, the length of its middle wall in Y, and the present and the marked set:
+abbrev pub likeP1 : ℕ → ℕ → ℕ → ℕ → ℕ → List ℕ
+likeP1 area end middle present marked =
+    1 ∷ 1 ∷ 2 ∷ 100 ∷ 1 ∷ 1 ∷ 0 ∷ 0
+    ∷ 2 ∷ 1 ∷ area ∷ 5000 ∷ 1 ∷ 0 ∷ 0 ∷ 0
+    ∷ 3 ∷ 1 ∷ 1 ∷ end ∷ end ∷ 1 ∷ 1 ∷ 0
+    ∷ 3 ∷ 1 ∷ 2 ∷ end ∷ end ∷ 1 ∷ 1 ∷ 0
+    ∷ 4 ∷ 1 ∷ 1 ∷ 1 ∷ 20 ∷ 2000 ∷ 1 ∷ 1
+    ∷ 4 ∷ 1 ∷ 1 ∷ 2 ∷ 0 ∷ 2000 ∷ 0 ∷ 2
+    ∷ 4 ∷ 1 ∷ 1 ∷ 3 ∷ 20 ∷ 2000 ∷ 1 ∷ 1
+    ∷ 4 ∷ 1 ∷ 2 ∷ 1 ∷ 20 ∷ 2000 ∷ 1 ∷ 1
+    ∷ 4 ∷ 1 ∷ 2 ∷ 2 ∷ 20 ∷ middle ∷ 1 ∷ 1
+    ∷ 4 ∷ 1 ∷ 2 ∷ 3 ∷ 20 ∷ 2000 ∷ 1 ∷ 1
+    ∷ 5 ∷ present ∷ marked ∷ 0 ∷ 0 ∷ 0 ∷ 0 ∷ 0
+    ∷ 8 ∷ 19800401 ∷ 19801001 ∷ 20120401 ∷ 0 ∷ 0 ∷ 0 ∷ 0
+    ∷ []
+
+-- with 0.4 m² of floor and ends of 0.1 m², so that its scores would be above 999;
 abbrev pub smallFloor : List ℕ
-smallFloor = set (set (set (set (set p1 10 40) 19 10) 20 10) 27 10) 28 10
+smallFloor = likeP1 40 10 4000 8191 8
 
--- with other sets of parts, present and marked;
-abbrev pub withParts : ℕ → ℕ → List ℕ
-withParts present marked = set (set p1 81 present) 82 marked
-
--- and without marks, by the length of the middle wall in Y.
+-- without marks, by the length of that wall;
 abbrev pub withMiddleWall : ℕ → List ℕ
-withMiddleWall length = set (withParts 8191 0) 69 length
+withMiddleWall length = likeP1 4000 1000 length 8191 0
+
+-- and by its parts.
+abbrev pub withParts : ℕ → ℕ → List ℕ
+withParts present marked = likeP1 4000 1000 4000 present marked
 
 -- What a house's record has for the ground storey in X and in Y: score, whole hundredths, remainder and divisor.
 abbrev pub recordedAt : List ℕ → ℕ → List ℕ
