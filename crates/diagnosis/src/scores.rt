@@ -62,14 +62,13 @@ fn started_by_31_may_1981(table: &[u32]) -> u32
 fn record_of(found: HouseAssessment, started: u32) -> Record
     ensures { λ r. ⌜ r ≡ recordBy found started ⌝ }
 {
-    let places = found.places;
     let mut scores = [0u32; 6];
     let mut hundredths = [0u64; 6];
     let mut remainders = [0u64; 6];
     let mut divisors = [0u64; 6];
     let mut at = 0;
     while at < 6 {
-        let one = places[at];
+        let one = found.places[at];
         let quotient = one.quotient;
         scores[at] = one.score;
         hundredths[at] = quotient.hundredths;

@@ -17,7 +17,7 @@ abbrev Filled : HouseAssessment → (Assessment → ℕ) → ℕ → List ℕ �
 Filled found kind at numbers = numbers ≡ six at 0 (λ i. kind (assessmentIn found i))
 
 abbrev Inv-loop : tie.InvT-loop
-Inv-loop found started places scores₀ hundredths₀ remainders₀ divisors₀ at₀ scores hundredths remainders divisors at =
+Inv-loop started found scores₀ hundredths₀ remainders₀ divisors₀ at₀ scores hundredths remainders divisors at =
     (at ≤ 6)
     × Filled found (λ one. one .score) at scores
     × Filled found (λ one. one .quotient .hundredths) at hundredths
@@ -25,7 +25,7 @@ Inv-loop found started places scores₀ hundredths₀ remainders₀ divisors₀ 
     × Filled found (λ one. one .quotient .divisor) at divisors
 
 abbrev μ-loop : tie.MeasureT-loop
-μ-loop found started places scores₀ hundredths₀ remainders₀ divisors₀ at₀ scores hundredths remainders divisors at = 6 - at
+μ-loop started found scores₀ hundredths₀ remainders₀ divisors₀ at₀ scores hundredths remainders divisors at = 6 - at
 
 loop-holds : tie.Need-loop-holds Inv-loop μ-loop
 loop-holds c = (omega arith, six-none _ _, six-none _ _, six-none _ _, six-none _ _)
@@ -33,8 +33,8 @@ loop-holds c = (omega arith, six-none _ _, six-none _ _, six-none _ _, six-none 
 mul-one : tie.Need-mul-one Inv-loop μ-loop
 mul-one c = search needs
 
-array-copy-out-one : tie.Need-array-copy-out-one Inv-loop μ-loop
-array-copy-out-one c = search needs
+element-copy-out-one : tie.Need-element-copy-out-one Inv-loop μ-loop
+element-copy-out-one c = search needs
 
 mul-scores : tie.Need-mul-scores Inv-loop μ-loop
 mul-scores c = search needs
@@ -97,7 +97,7 @@ record-of-spec =
     μ-loop
     loop-holds
     mul-one
-    array-copy-out-one
+    element-copy-out-one
     mul-scores
     array-write-scores
     mul-hundredths
