@@ -1,4 +1,4 @@
--- What is worked out for a house: the score that is computed is the one that is defined; its own sums can be worked out with; and its record and
+-- What is worked out for a house: what `score` answers is the quotient that is defined; its own sums can be worked out with; and its record and
 -- report are those of its table. Assumes nothing.
 use mathlib.Core.Path.{_≡_, refl, _∙_}
 use mathlib.Core.Bool.{Bool, true, false, cond}
