@@ -142,12 +142,19 @@ fn a_file_that_cannot_be_read_exits_with_2() {
 }
 
 #[test]
-fn standard_input_that_cannot_be_read_exits_with_2() {
-    for line in ["./diagnose <&-", "./diagnose <examples"] {
-        let run = shell(line);
-        assert_eq!((run.status, &*run.printed), (2, ""), "{line}");
-        assert_eq!(run.said, "diagnose: standard input: can't be read\n");
-    }
+fn standard_input_that_is_closed_exits_with_2() {
+    assert_cannot_be_read("./diagnose <&-");
+}
+
+#[test]
+fn a_folder_as_standard_input_exits_with_2() {
+    assert_cannot_be_read("./diagnose <examples");
+}
+
+fn assert_cannot_be_read(line: &str) {
+    let run = shell(line);
+    assert_eq!((run.status, &*run.printed), (2, ""));
+    assert_eq!(run.said, "diagnose: standard input: can't be read\n");
 }
 
 #[test]
