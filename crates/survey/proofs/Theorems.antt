@@ -12,7 +12,7 @@ use Rattle.survey.specs.Walls.{storey_walls, storey_run}
 use Rattle.survey.specs.Worked.{dates_changed, dates_told, ground_walls, upper_walls, of_storeys}
 use Rattle.survey.proofs.RefusalNumbers as refusal_numbers
 use Rattle.survey.proofs.Acceptance as acceptance
-use Rattle.survey.proofs.StoreyWalls as storey_walls
+use Rattle.survey.proofs.StoreyWalls as shown_walls
 use Rattle.survey.proofs.Examples as examples
 
 -- Which refusal a table gets. A table that is refused on no ground is made as the papers say,
@@ -37,15 +37,15 @@ judging_by_number table = refusal_numbers.judging_by_number table
 
 -- A storey's walls. Of an accepted table the first unbroken run of a storey's wall rows is all of its walls.
 pub run_is_walls : (table : List ℕ) → (judging table).number ≡ 0 → (storey : ℕ) → storey_run table storey ≡ storey_walls table storey
-run_is_walls table h storey = storey_walls.run_is_walls table h storey
+run_is_walls table h storey = shown_walls.run_is_walls table h storey
 
 -- The part "is empty where scoring refuses the table or the house lacks the storey".
 pub walls_refused : (table : List ℕ) (storey : ℕ) → ((judging table).number ≡ 0 → ⊥) → storey_walls table storey ≡ []
-walls_refused table storey refused = storey_walls.walls_refused table storey refused
+walls_refused table storey refused = shown_walls.walls_refused table storey refused
 
 pub walls_lacking : (table : List ℕ) → (judging table).number ≡ 0 → (storey : ℕ) → (1 ≤ storey → storey ≤ storeys table → ⊥)
     → storey_walls table storey ≡ []
-walls_lacking table h storey lacking = storey_walls.walls_lacking table h storey lacking
+walls_lacking table h storey lacking = shown_walls.walls_lacking table h storey lacking
 
 -- The definitions worked through. A number by its row and column, from 0, and 0 beyond a table.
 pub cells_read :

@@ -133,22 +133,21 @@ fn code_for_arm64_touches_every_page_of_the_stack() {
     }
 }
 
-/// Its stack is as large as the page says and stands first in memory, before everything else: the code's tables, of less
-/// than 1 KB, and what is left for the host.
+/// Its stack is as large as the page says and stands first in memory, before everything else: a table of the code's, of 160
+/// bytes, and what is left for the host.
 #[test]
 fn under_node_the_module_has_the_functions_of_the_header_and_no_more() {
     let program = "const module = new WebAssembly.Module(fs.readFileSync(process.argv[1]));
         const names = WebAssembly.Module.exports(module).map((one) => one.name).sort();
         const heap = new WebAssembly.Instance(module).exports.__heap_base.value;
-        const after = Math.floor(heap / 1024);
-        console.log(names.join('\\n'), WebAssembly.Module.imports(module).length, after);";
+        console.log(names.join('\\n'), WebAssembly.Module.imports(module).length, heap);";
     let mut node = Command::new("node");
     let output = common::output(node.args(["-e", program]).arg(module()));
     common::assert_silent(&output, "node");
     let mut expected = header::functions();
     expected.extend(["__heap_base", "memory"]);
     expected.sort_unstable();
-    assert_eq!(text(&output.stdout), expected.join("\n") + " 0 64\n");
+    assert_eq!(text(&output.stdout), expected.join("\n") + " 0 65696\n");
     assert!(page::says("The module has a stack of 64 KB"));
 }
 
