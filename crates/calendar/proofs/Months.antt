@@ -1,34 +1,20 @@
 -- Leap years, how many days a month has, and which dates there are. Assumes nothing.
-use Rattle.std.proofs.Common.{◌≡◌, refl, sym, subst, Bool, true, false, cond, ◌&&◌, ◌∷◌, ℕ, ◌+◌, ◌%◌, ◌<◌, ◌≤◌, arith, T, eqb, ltb, lit≤, get_or, eq-eqb, ne_eqb, eqb-true, lt-ltb, ltb-true, le-leb, leb-true}
+use Rattle.std.proofs.Common.{◌≡◌, refl, sym, ap, subst, ◌∙◌, Bool, true, false, cond, ◌&&◌, ◌∷◌, ℕ, zero, suc, ◌+◌, ◌-◌, ◌%◌, ◌<◌, ◌≤◌, arith, T, eqb, ltb, lit≤, get_or, slice_get, unwrap_or, ne_eqb, eqb-true, lt-ltb, ltb-true, le-leb, leb-true}
+use Rattle.std.proofs.lemmas.Bool.{and_parts}
+use Rattle.std.proofs.lemmas.Option.{unwrap_or-slice_get}
 use mathlib.Core.Bool.{and-false}
 use native.Mathlib.Decide.{ℕ_discrete}
-use lib.ListN.{get_or-eq_default}
 use borrow.Author.Tests.{lt-leb}
 use Rattle.calendar.specs.Days.{is_leap, month_lengths, days_in, is_date}
-
--- Both of two tests.
-both : (a : Bool) {b : Bool} → a && b ≡ true → (a ≡ true) × (b ≡ true)
-both true h = (refl, h)
-both false h = absurd (subst T (sym h) tt)
 
 -- A leap year is a fourth year, and the one ten years after is not.
 pub never_leap_after_ten : (year : ℕ) → is_leap year ≡ true → is_leap (year + 10) ≡ false
 unfolding is_leap
 never_leap_after_ten year leap =
-    let fourth : year % 4 ≡ 0 = eqb-true (year % 4) 0 (both (eqb (year % 4) 0) leap).0 in
+    let fourth : year % 4 ≡ 0 = eqb-true (year % 4) 0 (and_parts (eqb (year % 4) 0) _ leap).0 in
     rw (ne_eqb ((year + 10) % 4) 0 (λ e. omega arith))
 
 module _ (year month : ℕ) where
-  -- There is no such month.
-  pub days_none : 12 < month → 0 ≡ days_in year month
-  unfolding days_in
-  days_none above = rw (ne_eqb month 2 (λ e. omega arith)) (sym (get_or-eq_default (0 ∷ month_lengths) 0 above))
-
-  -- February of a leap year.
-  pub days_leap : month ≡ 2 → is_leap year ≡ true → 29 ≡ days_in year month
-  unfolding days_in
-  days_leap february leap = rw (eq-eqb month 2 february, leap)
-
   -- A month of another year, and a month that is not February.
   pub days_common : is_leap year ≡ false → get_or (0 ∷ month_lengths) month 0 ≡ days_in year month
   unfolding days_in
@@ -37,6 +23,11 @@ module _ (year month : ℕ) where
   pub days_other : (month ≡ 2 → ⊥) → get_or (0 ∷ month_lengths) month 0 ≡ days_in year month
   unfolding days_in
   days_other other = rw (ne_eqb month 2 other)
+
+-- A month by the number of those before it.
+pub month_listed : (month before : ℕ) → 1 ≤ month → before ≡ month - 1 → unwrap_or (slice_get month_lengths before) 0 ≡ get_or (0 ∷ month_lengths) month 0
+month_listed zero before some same = absurd (omega arith)
+month_listed (suc month) before some same = unwrap_or-slice_get month_lengths before 0 ∙ ap (λ (n : ℕ). get_or month_lengths n 0) (omega arith)
 
 -- February has 28 days or 29,
 pub february_days : (year : ℕ) → (28 ≤ days_in year 2) × (days_in year 2 ≤ 29)
@@ -69,7 +60,7 @@ module _ (year month day : ℕ) where
   pub date_known : is_date year month day ≡ true → (0 < day) × (day ≤ days_in year month)
   unfolding is_date
   date_known h =
-      let tests = both (ltb 0 day) h in
+      let tests = and_parts (ltb 0 day) _ h in
       (ltb-true 0 day tests.0, leb-true day (days_in year month) tests.1)
 
   pub date_there : 0 < day → day ≤ days_in year month → is_date year month day ≡ true

@@ -4,50 +4,37 @@
 // the month and two of the day of the month, so that of two days the later has the greater number. The
 // definitions stand in specs/Days.antt and the theorems in proofs/Theorems.antt. Every function takes any
 // numbers, also those of years that a sheet may not have.
-#![tactic(auto)]
+#![tactic(auto, using(std::proofs::lemmas::Bool::Decides::nat_tests), unfolding(crate::specs::Days::is_leap, crate::specs::Days::days_in, crate::specs::Days::is_date, crate::specs::Days::is_day, crate::specs::Days::ten_years_after, crate::specs::Days::age_on))]
 
-ghost use Rattle.std.specs.Prelude.{◌≡◌};
+ghost use Rattle.std.specs.Prelude.{◌≡◌, unwrap_or};
 ghost use Rattle.calendar.specs.Days.{is_leap, days_in, is_date, is_day, ten_years_after, age_on};
 
-// By a month's number, the days of January to December, where February has no 29th. There is no month 0.
-const MONTH_LENGTHS: [u32; 13] = [0, 31, 28, 31, 30, 31, 30, 31, 31, 30, 31, 30, 31];
+// The days of January to December, where February has no 29th.
+const MONTH_LENGTHS: [u32; 12] = [31, 28, 31, 30, 31, 30, 31, 31, 30, 31, 30, 31];
 
 // Whether February has a 29th in a year: 1900 is no leap year, and 2000 is one.
 fn is_leap(year: u32) -> bool
     ensures { result ≡ is_leap year }
 {
-    if year % 4 != 0 {
-        return false;
-    }
-    if year % 100 != 0 {
-        return true;
-    }
-    year % 400 == 0
+    year % 4 == 0 && (year % 100 != 0 || year % 400 == 0)
 }
 
-// How many days a month of a year has; 0 where there is no such month.
-fn days_in(year: u32, month: u32) -> u32
-    ensures { result ≡ days_in year month }
+// How many days a month of a year has, where there is such a month.
+fn days_in(year: u32, month: u32) -> Option<u32>
+    ensures { unwrap_or result 0 ≡ days_in year month }
 {
-    if 12 < month {
-        return 0;
+    if month == 2 && is_leap(year) {
+        return Some(29);
     }
-    if month == 2 {
-        if is_leap(year) {
-            return 29;
-        }
-    }
-    MONTH_LENGTHS[month as usize]
+    let before = month.checked_sub(1)?;
+    MONTH_LENGTHS.get(before as usize).copied()
 }
 
 // Whether a month of a year has such a day.
 fn is_date(year: u32, month: u32, day: u32) -> bool
     ensures { result ≡ is_date year month day }
 {
-    if day == 0 {
-        return false;
-    }
-    day <= days_in(year, month)
+    days_in(year, month).is_some_and(|days| (1..=days).contains(&day))
 }
 
 // Whether a number is a day.
@@ -66,17 +53,20 @@ fn ten_years_after(day: u32) -> u64
     let month = day / 100 % 100;
     let date = day % 100;
     if is_date(year, month, date) {
-        return 10_000 * year as u64 + 100 * month as u64 + date as u64;
+        10_000 * u64::from(year) + 100 * u64::from(month) + u64::from(date)
+    } else {
+        10_000 * u64::from(year) + 301
     }
-    10_000 * year as u64 + 301
 }
 
-// The age on a day of what was completed on another: 1 under ten years, 2 ten or more.
+// The age on a day of what was completed on another: 1 under ten years, 2 ten or more. It is a number, as
+// it is in a table's rows, where any number may stand.
 pub fn age_on(completion: u32, day: u32) -> u32
     ensures { result ≡ age_on completion day }
 {
-    if ten_years_after(completion) <= day as u64 {
-        return 2;
+    if ten_years_after(completion) <= u64::from(day) {
+        2
+    } else {
+        1
     }
-    1
 }
