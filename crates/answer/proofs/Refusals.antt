@@ -1,17 +1,41 @@
 -- What an answer tells, a refusal and a count; answers that are a count just where their number is 0. Assumes nothing.
-use Rattle.std.proofs.Common.{◌≡◌, refl, sym, ap, subst, ◌∙◌, Bool, true, false, cond, List, ℕ, T, eqb}
+use Rattle.std.proofs.Common.{◌≡◌, refl, sym, ap, subst, ◌∙◌, Bool, true, false, cond, List, ℕ, T, eqb, Result, Ok, Err, get_or, [], ◌∷◌}
 use borrow.Author.Tests.{eqb-false}
-use Rattle.answer.specs.declared.Answer.{Answer}
-use Rattle.answer.specs.declared.Answer.TheVariants.{Count, Refused}
-use Rattle.answer.specs.Told.{Told, told, accepts}
+use Rattle.answer.specs.declared.refusal.Reason.{Reason}
+use Rattle.answer.specs.declared.refusal.Reason.TheVariants.{SheetLength, Misprint, RowOutOfOrder, OutOfRange, TooManyWalls, EndsExceedStorey, MarkOnAbsentPart, NoParts, LentSpaceShort, NoSuchDay, DatesOutOfOrder}
+use Rattle.answer.specs.declared.refusal.Refusal.{Refusal}
+use Rattle.answer.specs.Told.{Told, told, accepts, number_of}
 
--- Answers that tell the same are the same. So a refusal numbered 0 tells no count, not even a count of 0.
-pub told_same : (one other : Answer) → told one ≡ told other → one ≡ other
-told_same (Count n) (Count m) e = ap Count (ap (λ (t : Told). t.count) e)
-told_same (Count n) (Refused number row column) e = absurd (subst T (ap (λ (t : Told). t.is_count) e) tt)
-told_same (Refused number row column) (Count n) e = absurd (subst T (ap (λ (t : Told). t.is_count) (sym e)) tt)
-told_same (Refused number row column) (Refused number' row' column') e =
-    rw (ap (λ (t : Told). t.number) e, ap (λ (t : Told). t.row) e, ap (λ (t : Told). t.column) e)
+-- The reason of a number from 1 to 11, and each reason's number leads back to it.
+abbrev reason_of : ℕ → Reason
+reason_of number =
+    get_or (SheetLength ∷ SheetLength ∷ Misprint ∷ RowOutOfOrder ∷ OutOfRange ∷ TooManyWalls ∷ EndsExceedStorey ∷ MarkOnAbsentPart ∷ NoParts ∷ LentSpaceShort
+    ∷ NoSuchDay ∷ DatesOutOfOrder ∷ []) number SheetLength
+
+reason_numbered : (reason : Reason) → reason_of (number_of reason) ≡ reason
+reason_numbered SheetLength = refl
+reason_numbered Misprint = refl
+reason_numbered RowOutOfOrder = refl
+reason_numbered OutOfRange = refl
+reason_numbered TooManyWalls = refl
+reason_numbered EndsExceedStorey = refl
+reason_numbered MarkOnAbsentPart = refl
+reason_numbered NoParts = refl
+reason_numbered LentSpaceShort = refl
+reason_numbered NoSuchDay = refl
+reason_numbered DatesOutOfOrder = refl
+
+-- Reasons of the same number are the same.
+pub number_same : (one other : Reason) → number_of one ≡ number_of other → one ≡ other
+number_same one other e = sym (reason_numbered one) ∙ ap reason_of e ∙ reason_numbered other
+
+-- Answers that tell the same are the same. So a refusal tells no count, not even a count of 0.
+pub told_same : (one other : Result ℕ Refusal) → told one ≡ told other → one ≡ other
+told_same (Ok n) (Ok m) e = ap (λ (k : ℕ). Ok k) (ap (λ (t : Told). t.count) e)
+told_same (Ok n) (Err r) e = absurd (subst T (ap (λ (t : Told). t.is_count) e) tt)
+told_same (Err r) (Ok n) e = absurd (subst T (ap (λ (t : Told). t.is_count) (sym e)) tt)
+told_same (Err r) (Err r') e =
+    rw (number_same r.reason r'.reason (ap (λ (t : Told). t.number) e), ap (λ (t : Told). t.row) e, ap (λ (t : Told). t.column) e) refl
 
 -- An accepted answer has passed each test on its way.
 pub passed : (test : Bool) (refused otherwise : Told) → eqb refused.number 0 ≡ false → (cond test refused otherwise).number ≡ 0
@@ -33,10 +57,10 @@ either_by_number true one other e f = e
 either_by_number false one other e f = f
 
 -- Where the code answers with a refusal, what is told is no count; it is told whatever else would be told next, and what was lent stays.
-pub refused_told : {answer : Answer} {tells : Told} {number row column : ℕ} → told answer ≡ tells → answer ≡ Refused number row column → accepts tells ≡ false
+pub refused_told : {answer : Result ℕ Refusal} {tells : Told} {r : Refusal} → told answer ≡ tells → answer ≡ Err r → accepts tells ≡ false
 refused_told e refused = ap accepts (sym e ∙ ap told refused)
 
-pub refused_first : {answer : Answer} (tells next : Told) {number row column : ℕ} (written lent : List ℕ) → told answer ≡ tells → answer ≡ Refused number row column
+pub refused_first : {answer : Result ℕ Refusal} (tells next : Told) {r : Refusal} (written lent : List ℕ) → told answer ≡ tells → answer ≡ Err r
     → (told answer ≡ cond (accepts tells) next tells) × (lent ≡ cond (accepts (cond (accepts tells) next tells)) written lent)
 refused_first tells next written lent e refused =
     let first : tells ≡ cond (accepts tells) next tells = sym (ap (λ (b : Bool). cond b next tells) (refused_told e refused)) in

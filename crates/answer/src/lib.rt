@@ -7,45 +7,12 @@
 // lists (specs/Lists.antt), and the houses that the examples speak of (specs/Houses.antt).
 #![tactic(auto)]
 
+mod refusal;
+
 ghost use Rattle.std.specs.Prelude.{◌≡◌};
-ghost use Rattle.answer.specs.Length.{rows_in};
+ghost use Rattle.answer.specs.Length.{whole_rows};
 
-// Document 01: "Each answer is either the count or a refusal with row and column".
-#[derive(Clone, Copy)]
-pub enum Answer {
-    // Rows where a sheet is read or a table judged, bytes where a table is written.
-    Count(u32),
-    // A refusal's number, and its row and column, both from 1; 0 where it has no place.
-    Refused { number: u32, row: u32, column: u32 },
-}
-
-// Document 01, "What a refused sheet is told": a refusal's number, with the trade's word for it.
-
-// Sheet length.
-pub const SHEET_LENGTH: u32 = 1;
-// Misprint.
-pub const MISPRINT: u32 = 2;
-// Row out of order.
-pub const ROW_OUT_OF_ORDER: u32 = 3;
-// Out of range.
-pub const OUT_OF_RANGE: u32 = 4;
-// Too many walls.
-pub const TOO_MANY_WALLS: u32 = 5;
-// Ends exceed storey.
-pub const ENDS_EXCEED_STOREY: u32 = 6;
-// Mark on absent part.
-pub const MARK_ON_ABSENT_PART: u32 = 7;
-// No parts.
-pub const NO_PARTS: u32 = 8;
-// Lent space short.
-pub const LENT_SPACE_SHORT: u32 = 9;
-
-// And document 02's, request 3:
-
-// No such day.
-pub const NO_SUCH_DAY: u32 = 10;
-// Dates out of order: one is before the one to its left.
-pub const DATES_OUT_OF_ORDER: u32 = 11;
+pub use refusal::{Answer, Reason, Refusal};
 
 // How many numbers a row of a table has.
 pub const ROW: usize = 8;
@@ -58,20 +25,17 @@ pub const MOST_ROWS: usize = 1 + 3 + 6 + MOST_WALLS + 1 + 1;
 // The numbers of the longest table.
 pub const MOST_NUMBERS: usize = MOST_ROWS * ROW;
 
-// How many lines of `unit` bytes, or rows of `unit` numbers, a length holds; 0 where refusal 1 is
-// due: nothing lent, a length that is no multiple of `unit`, or too many lines or rows.
-pub fn rows_in(length: usize, unit: usize) -> usize
-    ensures { result ≡ rows_in unit length }
+// How many lines of `unit` bytes, or rows of `unit` numbers, a length holds, or refusal 1: nothing lent, a
+// length that is no multiple of `unit`, or too many lines or rows.
+pub fn rows_in(length: usize, unit: usize) -> Result<usize, Refusal>
+    ensures { result ≡ whole_rows unit length }
 {
-    if unit == 0 {
-        return 0;
-    }
-    if length % unit != 0 {
-        return 0;
+    if unit == 0 || length % unit != 0 {
+        return Err(Refusal::without_place(Reason::SheetLength));
     }
     let rows = length / unit;
-    if MOST_ROWS < rows {
-        return 0;
+    if rows == 0 || MOST_ROWS < rows {
+        return Err(Refusal::without_place(Reason::SheetLength));
     }
-    rows
+    Ok(rows)
 }

@@ -15,8 +15,5 @@ const MOST_INPUT: u64 = 65_536;
 fn main(rt: HostRuntime) -> io::Result<()> {
     let mut sheet = Vec::new(rt.alloc());
     rt.reader().take(MOST_INPUT).read_to_end(&mut sheet)?;
-    let output = diagnosis::output_of(&sheet);
-    let bytes = output.bytes;
-    let length = output.length;
-    rt.write_all(&bytes[..length])
+    rt.write_all(diagnosis::output_of(&sheet).printed())
 }

@@ -8,7 +8,7 @@ use Rattle.method.specs.Required.{most_required}
 use Rattle.method.proofs.Requirements.{narrow_least, narrow_most, required_positive, required_most}
 use Rattle.diagnosis.specs.Rows.{house_of, storey_of, storey_part}
 use Rattle.diagnosis.specs.House.{narrow, required_of, required}
-use Rattle.diagnosis.specs.Internal.{Stands}
+use Rattle.diagnosis.specs.Premises.{Stands}
 
 module _ (table : List ℕ) (h : (judging table).number ≡ 0) where
   a : Accepted table

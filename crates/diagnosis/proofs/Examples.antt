@@ -1,5 +1,5 @@
 -- Document 01's houses worked through, from P1's sheet to its report, by computation. Assumes nothing.
-use Rattle.std.proofs.Common.{◌≡◌, refl, sym, ◌∙◌, List, [], ◌∷◌, ℕ, ◌+◌, ◌*◌, ◌≤◌, max, le_refl, lit≤, get_or, set, take, replicate, le-ltb}
+use Rattle.std.proofs.Common.{◌≡◌, refl, sym, ◌∙◌, false, map, Ok, List, [], ◌∷◌, ℕ, ◌+◌, ◌*◌, ◌≤◌, max, le_refl, lit≤, get_or, set, take, replicate, le-ltb}
 use Rattle.answer.specs.Told.{counted, refusal}
 use Rattle.answer.specs.First.{first}
 use Rattle.answer.specs.Length.{rows_in}
@@ -28,10 +28,9 @@ use Rattle.diagnosis.specs.Rows.{end_a, end_b}
 use Rattle.method.specs.declared.scores.Quotient.{Quotient}
 use Rattle.diagnosis.specs.House.{in_direction, solid_at_end, held, end_held, narrow, required_of, required, end_required, end_band, higher_band, storey_floor_type, layout, deterioration, strengths_with, score_before, score_with, quotient_with, full_score, full_quotient, scores, least_of, least_score, house_verdict, started_by_31_may_1981}
 use Rattle.diagnosis.specs.declared.held.HeldSums.{HeldSums}
-use Rattle.diagnosis.specs.declared.scores.Record.{Record}
-use Rattle.diagnosis.specs.declared.scores.Outcome.TheVariants.{Scored, Refused}
+use Rattle.method.specs.declared.verdicts.Verdict.TheVariants.{LikelyToCollapse}
 use Rattle.diagnosis.specs.Internal.{held_sums}
-use Rattle.diagnosis.specs.Answers.{told_outcome, six_numbers, no_record, record_of, scoring}
+use Rattle.diagnosis.specs.Answers.{ToldRecord, told_refused, Scoring, told_scoring, six_numbers, record_of, scoring}
 use Rattle.diagnosis.specs.Comparison.{score_at}
 use Rattle.diagnosis.specs.Report.{result_rows, report_rows, report_bytes, reporting, refusal_line}
 use Rattle.diagnosis.specs.Program.{most_numbers, table_of, diagnosing, after_diagnosing, most_report_bytes, output}
@@ -416,7 +415,7 @@ repaired_left_over = (
 )
 
 -- What P1 is scored by: what its record has beside each score.
-abbrev quotient_at : Record → ℕ → Quotient
+abbrev quotient_at : ToldRecord → ℕ → Quotient
 quotient_at found at =
     record { hundredths = get_or found.hundredths at 0; remainder = get_or found.remainders at 0; divisor = get_or found.divisors at 0 }
 
@@ -469,10 +468,20 @@ pub worsened_records :
 unfolding least_of verdict started_by_31_may_1981 wall_rows first
 worsened_records = (p1_record_lem, by_quotients sound refl sound_quotients, by_quotients all_worse refl all_worse_quotients, refl)
 
--- What scoring answers of the worst.
-pub all_worse_scored : told_outcome Scored (record_of all_worse) ≡ scoring all_worse
+-- What scoring answers of the worst, as the code gives it.
+abbrev pub all_worse_scoring : Scoring
+all_worse_scoring =
+    Ok (record {
+      scores = all_worse_record.scores;
+      count = all_worse_record.count;
+      verdict = LikelyToCollapse;
+      started_by_31_may_1981 = false;
+      quotients = map (quotient_at all_worse_record) (0 ∷ 1 ∷ 2 ∷ 3 ∷ 4 ∷ 5 ∷ []);
+    })
+
+pub all_worse_scored : told_scoring all_worse_scoring ≡ scoring all_worse
 unfolding scoring
-all_worse_scored = rw two_judged.6
+all_worse_scored = rw (two_judged.6, worsened_records.2)
 
 -- What scoring answers of a house on which work started on the grant's last day, and a day later; and of P1 with an age, which is refused.
 started_judged : Judged (started_on 19810531) × Judged (started_on 19810601) × (judging (set p1 6 2) ≡ refusal 4 1 7)
@@ -485,6 +494,6 @@ pub grants_last_day_lem :
 unfolding scoring record_of started_by_31_may_1981 wall_rows first
 grants_last_day_lem = (rw started_judged.0, rw started_judged.1)
 
-pub refused_record : scoring (set p1 6 2) ≡ told_outcome (Refused 4 1 7) no_record
+pub refused_record : scoring (set p1 6 2) ≡ told_refused 4 1 7
 unfolding scoring
 refused_record = rw started_judged.2

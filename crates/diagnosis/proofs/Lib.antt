@@ -1,6 +1,7 @@
 -- The laws about a table's diagnosis, and the theorems.
 pub mod AcceptedTables
 pub mod Sums
+pub mod Places
 pub mod SixPlaces
 pub mod Assessments
 pub mod ScoreLists

@@ -3,9 +3,8 @@ use Rattle.std.proofs.Common.{◌≡◌, List, ℕ, ◌+◌, ◌*◌, ◌<◌, m
 use Rattle.survey.specs.Judgement.{judging}
 use Rattle.method.specs.Score.{score}
 use Rattle.method.proofs.Theorems.{score_divided, remainder_smaller}
-use Rattle.diagnosis.specs.declared.scores.Scoring.{Scoring}
 use Rattle.diagnosis.specs.House.{InHouse, held, required, layout, deterioration, strengths_with, score_with, quotient_with, full_score, full_quotient}
-use Rattle.diagnosis.specs.Answers.{told_scoring, record_of, scoring}
+use Rattle.diagnosis.specs.Answers.{Scoring, told_scoring, record_of, scoring}
 use Rattle.diagnosis.specs.Comparison.{score_at}
 use Rattle.diagnosis.proofs.AcceptedTables.{required_some}
 use Rattle.diagnosis.proofs.Assessments.{lower_some}
@@ -34,7 +33,8 @@ module _ (table : List ℕ) (h : (judging table).number ≡ 0) (storey direction
 
   pub record_divided : (a : Scoring) → told_scoring a ≡ scoring table
       → let place : List ℕ → ℕ = λ numbers. get_or numbers (score_at storey direction) 0 in
-      Divided table storey direction (place a.result.scores) (place a.result.hundredths) (place a.result.remainders) (place a.result.divisors)
+      Divided table storey direction (place (told_scoring a).result.scores) (place (told_scoring a).result.hundredths) (place (told_scoring a).result.remainders)
+      (place (told_scoring a).result.divisors)
   unfolding record_of
   record_divided a e =
       rw (

@@ -1,70 +1,70 @@
 -- The ways out of writing a report, and of diagnosing a sheet: the answer and the lent bytes in each. Assumes nothing.
-use Rattle.std.proofs.Common.{◌≡◌, refl, sym, ap, subst, ◌∙◌, Bool, true, false, cond, List, ℕ, ◌-◌, ◌*◌, ◌<◌, ◌≤◌, le_refl, arith, T, eqb, ltb, lit≤, length, take, replicate, ltb-true, ltb-false}
-use Rattle.answer.specs.declared.Answer.{Answer}
-use Rattle.answer.specs.declared.Answer.TheVariants.{Count, Refused}
-use Rattle.answer.specs.Told.{Told, told, counted, refusal, accepts, lent_space_short}
+use Rattle.std.proofs.Common.{◌≡◌, Result, Ok, Err, refl, sym, ap, subst, ◌∙◌, Bool, true, false, cond, List, ℕ, ◌*◌, ◌<◌, ◌≤◌, le_refl, arith, T, eqb, ltb, lit≤, length, take, drop, replicate, take_at, ltb-true, ltb-false}
+use Rattle.answer.specs.declared.refusal.Refusal.{Refusal}
+use Rattle.answer.specs.Told.{Told, number_of, told, counted, refusal, refusal_row, accepts, lent_space_short}
 use Rattle.answer.specs.Length.{rows_in}
 use Rattle.answer.specs.Lists.{joined, part, over}
-use Rattle.answer.proofs.Lists.{over_length, over_front}
+use Rattle.answer.proofs.Lists.{over_length}
 use Rattle.answer.proofs.Refusals.{either_by_number, refused_told, refused_first}
 use Rattle.sheet.specs.Sheet.{reading, after_reading, lines_of, after_printing}
 use Rattle.sheet.proofs.Sheets.{numbers_length, line_length, lines_length, printing_rows}
-use Rattle.sheet.proofs.Answers.{Readable, accepted_readable, readable_accepted, never_short, reading_by_number, read_accepted}
+use Rattle.sheet.proofs.Answers.{Readable, accepted_readable, readable_accepted, never_short, reading_by_number}
 use Rattle.survey.specs.Judgement.{judging}
 use Rattle.survey.proofs.RefusalNumbers.{judging_known, judging_by_number, accepted_number}
 use Rattle.diagnosis.specs.Program.{most_numbers, table_of, diagnosing, after_diagnosing, most_report_bytes, output, output_bytes}
-use Rattle.diagnosis.specs.Report.{report_rows, report_lines, report_bytes, reporting, after_reporting, refusal_row, refusal_line}
+use Rattle.diagnosis.specs.Report.{report_rows, report_lines, report_bytes, reporting, after_reporting, refusal_line}
 use Rattle.diagnosis.proofs.AcceptedTables.{storeys_few}
 
 -- Writing the report of a table that is refused: the answer, and the lent bytes afterwards.
-pub report_refused : (table lent : List ℕ) (answer : Answer) {number row column : ℕ} → told answer ≡ judging table → answer ≡ Refused number row column
-    → (told answer ≡ reporting table (length lent)) × (lent ≡ after_reporting table lent)
+pub report_refused : (table lent : List ℕ) (r : Refusal) → told (Err r) ≡ judging table
+    → record { answer : told (Err r) ≡ reporting table (length lent); report : lent ≡ after_reporting table lent }
 unfolding reporting after_reporting
-report_refused table lent answer judged e = refused_first (judging table) _ _ lent judged e
+report_refused table lent r judged =
+    let refused = refused_first {answer = Err r} (judging table) _ _ lent judged refl in
+    record { answer = refused.0; report = refused.1 }
 
 -- An answer to diagnosing a sheet into lent bytes, and these afterwards.
 abbrev Diagnosed : List ℕ → List ℕ → Told → List ℕ → Type 0
 Diagnosed sheet lent answer after = (answer ≡ diagnosing sheet (length lent)) × (after ≡ after_diagnosing sheet lent)
 
-module _ (sheet table lent : List ℕ) {answer : Answer} (long : length table ≡ most_numbers) (read : told answer ≡ reading sheet (length table)) where
-  -- A sheet that cannot be read.
-  pub diagnose_refused : {number row column : ℕ} → answer ≡ Refused number row column → Diagnosed sheet lent (told answer) lent
-  unfolding diagnosing after_diagnosing
-  diagnose_refused e = refused_first (reading sheet most_numbers) _ _ lent (rw long at read) e
+-- A sheet that cannot be read.
+pub diagnose_refused : (sheet lent : List ℕ) (r : Refusal) → told (Err r) ≡ reading sheet most_numbers → Diagnosed sheet lent (told (Err r)) lent
+unfolding diagnosing after_diagnosing
+diagnose_refused sheet lent r read = refused_first {answer = Err r} (reading sheet most_numbers) _ _ lent read refl
 
-  -- One that can: its rows are its table.
-  module _ {rows : ℕ} (e : answer ≡ Count rows) where
-    counts : reading sheet (length table) ≡ counted rows
-    counts = read_accepted sheet table read e
+-- One that can: its rows are its table.
+module _ (sheet table lent : List ℕ) (long : length table ≡ most_numbers) {rows : ℕ} (read : counted rows ≡ reading sheet (length table)) where
+  counts : reading sheet (length table) ≡ counted rows
+  counts = sym read
 
-    readable : Readable sheet (rows_in 65 (length sheet)) × (8 * rows_in 65 (length sheet) ≤ length table)
-    readable = accepted_readable sheet (length table) (ap (λ (t : Told). t.number) counts)
+  readable : Readable sheet (rows_in 65 (length sheet)) × (8 * rows_in 65 (length sheet) ≤ length table)
+  readable = accepted_readable sheet (length table) (ap (λ (t : Told). t.number) counts)
 
-    both : (counted (rows_in 65 (length sheet)) ≡ reading sheet (length table)) × (over table (table_of sheet) ≡ after_reading sheet table)
-    unfolding table_of
-    both = readable_accepted sheet table (rows_in 65 (length sheet)) readable.0 readable.1
+  both : (counted (rows_in 65 (length sheet)) ≡ reading sheet (length table)) × (over table (table_of sheet) ≡ after_reading sheet table)
+  unfolding table_of
+  both = readable_accepted sheet table (rows_in 65 (length sheet)) readable.0 readable.1
 
-    so_many : rows ≡ rows_in 65 (length sheet)
-    so_many = ap (λ (t : Told). t.count) (sym (both.0 ∙ counts))
+  so_many : rows ≡ rows_in 65 (length sheet)
+  so_many = ap (λ (t : Told). t.count) (sym (both.0 ∙ counts))
 
-    pub rows_fit : {filled : List ℕ} → filled ≡ after_reading sheet table → 8 * rows ≤ length filled
-    unfolding table_of
-    rows_fit f =
-        let kept = over_length table (table_of sheet) (omega (arith, numbers_length (8 * rows_in 65 (length sheet)) sheet, readable.1)) in
-        rw (f, ← both.1, kept) (omega (arith, so_many, readable.1))
+  pub rows_fit : {filled : List ℕ} → filled ≡ after_reading sheet table → 8 * rows ≤ length filled
+  unfolding table_of
+  rows_fit f =
+      let kept = over_length table (table_of sheet) (omega (arith, numbers_length (8 * rows_in 65 (length sheet)) sheet, readable.1)) in
+      rw (f, ← both.1, kept) (omega (arith, so_many, readable.1))
 
-    table_taken : {filled : List ℕ} → filled ≡ after_reading sheet table → take (8 * rows - 0) filled ≡ table_of sheet
-    unfolding table_of
-    table_taken f = rw (f, ← both.1, so_many) (over_front table (table_of sheet) _ (numbers_length _ sheet))
+  table_taken : {filled : List ℕ} → filled ≡ after_reading sheet table → take (8 * rows) filled ≡ table_of sheet
+  unfolding table_of over
+  table_taken f = rw (f, ← both.1, so_many) (take_at (table_of sheet) (drop (length (table_of sheet)) table) _ (numbers_length _ sheet))
 
-    pub diagnose_read : {filled after : List ℕ} {reported : Told} → filled ≡ after_reading sheet table
-        → reported ≡ reporting (take (8 * rows - 0) filled) (length lent) → after ≡ after_reporting (take (8 * rows - 0) filled) lent
-        → Diagnosed sheet lent reported after
-    unfolding diagnosing after_diagnosing after_reporting
-    diagnose_read f r a =
-        let accepted : accepts (reading sheet most_numbers) ≡ true = rw (← long, counts) in
-        let taken = table_taken f in
-        (r ∙ rw (taken, accepted), a ∙ rw (taken, accepted))
+  pub diagnose_read : {filled after : List ℕ} {reported : Told} → filled ≡ after_reading sheet table
+      → reported ≡ reporting (take (8 * rows) filled) (length lent) → after ≡ after_reporting (take (8 * rows) filled) lent
+      → Diagnosed sheet lent reported after
+  unfolding diagnosing after_diagnosing after_reporting
+  diagnose_read f r a =
+      let accepted : accepts (reading sheet most_numbers) ≡ true = rw (← long, counts) in
+      let taken = table_taken f in
+      (r ∙ rw (taken, accepted), a ∙ rw (taken, accepted))
 
 -- An answer is a count just where its number is 0.
 pub reporting_by_number : (table : List ℕ) (lent : ℕ) → (reporting table lent).is_count ≡ eqb (reporting table lent).number 0
@@ -122,8 +122,8 @@ module _ (sheet : List ℕ) (lent : ℕ) where
       (λ l e. l)
 
   -- What is told is a count just where it is no refusal, and the count is the report's bytes.
-  module _ {answer : Answer} (diagnosed : told answer ≡ diagnosing sheet lent) where
-    pub diagnosed_count : {count : ℕ} → answer ≡ Count count → (accepts (diagnosing sheet lent) ≡ true) × (count ≡ needed) × (count ≤ lent)
+  module _ {answer : Result ℕ Refusal} (diagnosed : told answer ≡ diagnosing sheet lent) where
+    pub diagnosed_count : {count : ℕ} → answer ≡ Ok count → (accepts (diagnosing sheet lent) ≡ true) × (count ≡ needed) × (count ≤ lent)
     diagnosed_count {count} e =
         by_way_out
         (λ answer. counted count ≡ answer → (accepts answer ≡ true) × (count ≡ needed) × (count ≤ lent))
@@ -133,7 +133,7 @@ module _ (sheet : List ℕ) (lent : ℕ) where
         (λ l e. (refl, omega (arith, ap (λ (t : Told). t.count) e), omega (arith, ap (λ (t : Told). t.count) e)))
         (sym (ap told e) ∙ diagnosed)
 
-    pub diagnosed_refusal : {number row column : ℕ} → answer ≡ Refused number row column → accepts (diagnosing sheet lent) ≡ false
+    pub diagnosed_refusal : {r : Refusal} → answer ≡ Err r → accepts (diagnosing sheet lent) ≡ false
     diagnosed_refusal e = refused_told diagnosed e
 
 -- One row printed.
@@ -150,18 +150,21 @@ abbrev Output : List ℕ → Told → List ℕ → ℕ → Type 0
 Output sheet answer bytes count =
     (answer ≡ diagnosing sheet most_report_bytes) × ((bytes ≡ output_bytes sheet) × (count ≡ length (output sheet)))
 
-module _ (sheet : List ℕ) {answer : Answer} (diagnosed : told answer ≡ diagnosing sheet most_report_bytes)
+module _ (sheet : List ℕ) {answer : Result ℕ Refusal} (diagnosed : told answer ≡ diagnosing sheet most_report_bytes)
     {after : List ℕ} (written : after ≡ after_diagnosing sheet (replicate most_report_bytes 0)) where
-  pub output_report : {count : ℕ} → answer ≡ Count count → Output sheet (counted count) after count
+  pub output_report : {count : ℕ} → answer ≡ Ok count → Output sheet (counted count) after count
   unfolding output output_bytes after_diagnosing report_bytes
   output_report e =
       let counts = diagnosed_count sheet most_report_bytes diagnosed e in
       (sym (ap told e) ∙ diagnosed, (written ∙ rw counts.0, rw counts.0 (counts.1 ∙ sym (lines_length _ _))))
 
-  pub output_refusal : {number row column : ℕ} {bytes : List ℕ} → answer ≡ Refused number row column
-      → bytes ≡ after_printing (refusal_row number row column) after → Output sheet (refusal number row column) bytes 65
+  pub output_refusal : {r : Refusal} {bytes : List ℕ} → answer ≡ Err r
+      → bytes ≡ after_printing (refusal_row (number_of r.reason) r.row r.column) after → Output sheet (told (Err r)) bytes 65
   unfolding output output_bytes after_diagnosing
-  output_refusal {number} {row} {column} e printed =
+  output_refusal {r} e printed =
+      let number = number_of r.reason in
+      let row = r.row in
+      let column = r.column in
       let refused = diagnosed_refusal sheet most_report_bytes diagnosed e in
       let tells = sym (ap told e) ∙ diagnosed in
       let blank : List ℕ = replicate most_report_bytes 0 in
@@ -187,3 +190,7 @@ output_most sheet = go (accepts (diagnosing sheet most_report_bytes)) refl
 pub output_within : {bytes : List ℕ} {count : ℕ} (sheet : List ℕ) → (bytes ≡ output_bytes sheet) × (count ≡ length (output sheet)) → count ≤ length bytes
 unfolding output_bytes
 output_within sheet told = rw (told.0, told.1, over_length (replicate {A = ℕ} most_report_bytes 0) (output sheet) (output_most sheet)) (output_most sheet)
+
+pub output_front : {bytes : List ℕ} {count : ℕ} (sheet : List ℕ) → (bytes ≡ output_bytes sheet) × (count ≡ length (output sheet)) → take count bytes ≡ output sheet
+unfolding output_bytes over
+output_front sheet told = rw (told.0, told.1) (take_at (output sheet) _ _ refl)

@@ -9,25 +9,28 @@ use Rattle.answer.proofs.Lists.{joined_length, joined_part, part_at}
 use Rattle.survey.specs.Table.{storeys}
 use Rattle.survey.specs.Judgement.{judging}
 use Rattle.survey.proofs.RefusalNumbers.{judging_by_number, judging_accepts}
-use Rattle.diagnosis.specs.declared.scores.Outcome.{Outcome}
-use Rattle.diagnosis.specs.declared.scores.Outcome.TheVariants.{Scored, Refused}
-use Rattle.diagnosis.specs.declared.scores.Record.{Record}
-use Rattle.diagnosis.specs.declared.scores.Scoring.{Scoring}
 use Rattle.diagnosis.specs.House.{InHouse, score_with, full_score, full_quotient, storey_by_storey, scores, least_of, least_score}
-use Rattle.diagnosis.specs.Answers.{no_numbers, six_numbers, no_record, ToldScoring, told_outcome, told_scoring, record_of, scoring}
+use Rattle.diagnosis.specs.Answers.{no_numbers, six_numbers, ToldScoring, told_scored, told_refused, Scoring, told_scoring, record_of, scoring}
 use Rattle.diagnosis.specs.Comparison.{score_at}
 use Rattle.diagnosis.proofs.AcceptedTables.{storeys_few}
 
--- The least of some scores, and of one more.
-least_more : (some : List ℕ) (x : ℕ) → min (least_of some) x ≡ least_of (some ++ x ∷ [])
+-- The least of some scores, and of a storey's two more.
+least_more : (some : List ℕ) (x y : ℕ) → min (min (least_of some) x) y ≡ least_of (some ++ x ∷ y ∷ [])
 unfolding least_of
-least_more [] x = omega arith
-least_more (one ∷ others) x = omega (arith, least_more others x)
+least_more [] x y = omega arith
+least_more (one ∷ others) x y = omega (arith, least_more others x y)
 
-pub score_more : (f : ℕ → ℕ) (at : ℕ) {least x : ℕ} → least ≡ least_of (joined at (λ i. f i ∷ [])) → x ≡ f at
-    → min least x ≡ least_of (joined (at + 1) (λ i. f i ∷ []))
+-- The scores of the first storeys, so many, and those of a storey more.
+abbrev pub scores_below : List ℕ → ℕ → List ℕ
+scores_below table n = joined n (λ below. full_score table (below + 1) 1 ∷ full_score table (below + 1) 2 ∷ [])
+
+joined_next : (f : ℕ → List ℕ) (n : ℕ) → joined (n + 1) f ≡ joined n f ++ f n
 unfolding joined
-score_more f at so_far one = rw (so_far, one, add-one) (least_more (joined at (λ i. f i ∷ [])) (f at))
+joined_next f n = rw add-one
+
+pub storey_more : (table : List ℕ) (below : ℕ) {least x y : ℕ} → least ≡ least_of (scores_below table below) → x ≡ full_score table (below + 1) 1
+    → y ≡ full_score table (below + 1) 2 → min (min least x) y ≡ least_of (scores_below table (below + 1))
+storey_more table below so_far one other = rw (so_far, one, other, joined_next) (least_more (scores_below table below) _ _)
 
 -- A number for each storey and direction is two a storey, and so are the scores.
 numbers_length : (table : List ℕ) (number : ℕ → ℕ → ℕ) → length (storey_by_storey table number) ≡ 2 * storeys table
@@ -71,14 +74,9 @@ module _ (table : List ℕ) (storey direction : ℕ) (s : InHouse table storey d
   record_score = number_in_six (full_score table)
 
 -- The record that scoring answers, where the table is accepted.
-told_result : (outcome : Outcome) (result : Record) → (told_outcome outcome result).result ≡ result
-told_result Scored result = refl
-told_result (Refused number row column) result = refl
-
-pub record_told : (table : List ℕ) (a : Scoring) → (judging table).number ≡ 0 → told_scoring a ≡ scoring table → a.result ≡ record_of table
+pub record_told : (table : List ℕ) (a : Scoring) → (judging table).number ≡ 0 → told_scoring a ≡ scoring table → (told_scoring a).result ≡ record_of table
 unfolding scoring
-record_told table a h e =
-    sym (told_result a.outcome a.result) ∙ ap (λ (x : ToldScoring). x.result) e ∙ rw (judging_accepts table h)
+record_told table a h e = ap (λ (x : ToldScoring). x.result) e ∙ rw (judging_accepts table h)
 
 -- A table is scored just where the refusal's number is 0.
 pub scored_by_number : (table : List ℕ) → (scoring table).scored ≡ eqb (scoring table).number 0
@@ -89,8 +87,8 @@ scored_by_number table = go (accepts (judging table)) refl
     judged = judging table
 
     go : (accepted : Bool) → accepts judged ≡ accepted
-        → (cond accepted (told_outcome Scored (record_of table)) (told_outcome (Refused judged.number judged.row judged.column) no_record)).scored
-        ≡ eqb (cond accepted (told_outcome Scored (record_of table)) (told_outcome (Refused judged.number judged.row judged.column) no_record)).number 0
+        → (cond accepted (told_scored (record_of table)) (told_refused judged.number judged.row judged.column)).scored
+        ≡ eqb (cond accepted (told_scored (record_of table)) (told_refused judged.number judged.row judged.column)).number 0
     go true e = refl
     go false e = sym e ∙ judging_by_number table
 

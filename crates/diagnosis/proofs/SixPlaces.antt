@@ -1,6 +1,8 @@
 -- Six places by storey and direction, filled one after the other. Assumes nothing.
-use Rattle.std.proofs.Common.{◌≡◌, refl, List, [], ◌∷◌, ℕ, zero, suc, ◌+◌, ◌<◌, arith, get_or, set, lt-ltb}
-use Rattle.diagnosis.specs.Internal.{six}
+use Rattle.std.proofs.Common.{◌≡◌, refl, sym, ◌∙◌, List, [], ◌∷◌, ℕ, zero, suc, ◌+◌, ◌<◌, arith, length, get_or, set, map, lt-ltb}
+use Rattle.std.proofs.Math.ListN.{get_or-map}
+use Rattle.std.proofs.lemmas.List.{ext_get_or, length-map}
+use Rattle.diagnosis.specs.Premises.{six}
 
 -- What holds of the numbers 0 to 5 holds of each place.
 pub by_place_lem : (P : ℕ → Type 0) → P 0 → P 1 → P 2 → P 3 → P 4 → P 5 → (at : ℕ) → at < 6 → P at
@@ -39,3 +41,9 @@ module _ {A : Type 0} (none : A) (f : ℕ → A) where
       (λ l. rw (lt-ltb 4 count l))
       (λ l. rw (lt-ltb 5 count l))
       at inside before
+
+-- A list of what a function gives at each of six elements.
+pub six_mapped : {A B : Type 0} (f : A → B) (none : A) (xs : List A) (ys : List B) → length xs ≡ 6 → length ys ≡ 6
+    → ((at : ℕ) → at < 6 → get_or ys at (f none) ≡ f (get_or xs at none)) → ys ≡ map f xs
+six_mapped f none xs ys six long each =
+    ext_get_or (f none) ys (map f xs) (long ∙ sym six ∙ sym (length-map xs f)) (λ at inside. each at (omega (arith, long)) ∙ sym (get_or-map f xs at none))

@@ -1,7 +1,9 @@
 -- What a storey's walls hold, wall by wall: with one wall more, and at most. Assumes nothing.
-use Rattle.std.proofs.Common.{◌≡◌, ap, Bool, List, ℕ, ◌+◌, ◌-◌, ◌*◌, ◌/◌, ◌<◌, ◌≤◌, zero-add, le_refl, le_trans, mul-le-mul_right, arith, length, take, drop, lit≤, lit<}
+use Rattle.std.proofs.Common.{◌≡◌, ap, Bool, List, ℕ, ◌+◌, ◌*◌, ◌/◌, ◌<◌, ◌≤◌, zero-add, le_refl, le_trans, mul-le-mul_right, arith, length, drop, sym, ◌∙◌, ◌++◌, length-append, length-drop, take_at, drop_at, lit≤, lit<}
+use Rattle.std.proofs.lemmas.List.{drop-drop}
 use Rattle.answer.specs.Length.{most_walls}
-use Rattle.answer.proofs.Parts.{lent_part, part_element}
+use Rattle.answer.specs.Lists.{part}
+use Rattle.answer.proofs.Lists.{part_at}
 use Rattle.survey.specs.Table.{cell}
 use Rattle.survey.specs.Judgement.{judging}
 use Rattle.survey.specs.Walls.{storey_walls}
@@ -9,31 +11,55 @@ use Rattle.survey.specs.Acceptance.{Accepted}
 use Rattle.survey.proofs.Acceptance.{accepted}
 use Rattle.survey.proofs.StoreyWalls.{Shown, shown, rows_cell, rows_length}
 use Rattle.method.specs.declared.rows.House.{House}
-use Rattle.method.specs.Held.{held_strength, most_held}
+use Rattle.method.specs.declared.rows.Wall.{Wall}
+use Rattle.method.specs.Held.{wall_share, held_strength, most_held}
 use Rattle.method.proofs.Shares.{most_share, share_most, held_none, held_more, held_most}
 use Rattle.diagnosis.specs.declared.held.HeldSums.{HeldSums}
 use Rattle.diagnosis.specs.Rows.{house_of, end_a, end_b, wall_of}
 use Rattle.diagnosis.specs.House.{share, in_direction, solid_at_end, held, end_held}
-use Rattle.diagnosis.specs.Internal.{WallsFit, sums_over, Addable, with_wall, held_sums, no_sums}
+use Rattle.diagnosis.specs.Internal.{sums_over, Addable, with_wall, held_sums, no_sums}
 
--- A wall's row as the loop lends it, and its numbers.
-abbrev pub wall_lent : List ℕ → ℕ → List ℕ
-wall_lent walls row = take (8 * row + 8 - 8 * row) (drop (8 * row) walls)
+-- The chunk that a loop over a storey's walls takes is the next wall's row, and what it leaves is the rest of them.
+pub record NextWall (walls : List ℕ) (row : ℕ) (chunk left : List ℕ) : Type 0 where
+  pub inside : row < length walls / 8
+  pub is_row : chunk ≡ part 8 row walls
+  pub leaves : left ≡ drop (8 * (row + 1)) walls
+
+pub next_wall : (walls : List ℕ) (row : ℕ) {rest chunk left : List ℕ} → rest ≡ drop (8 * row) walls → rest ≡ chunk ++ left → length chunk ≡ 8
+    → NextWall walls row chunk left
+unfolding part
+next_wall walls row {chunk = chunk} {left = left} so_far cut long =
+    let e : drop (8 * row) walls ≡ chunk ++ left = sym so_far ∙ cut in
+    let next : 8 * row + 8 ≡ 8 * (row + 1) = omega arith in
+    record {
+      inside = omega (arith, ap length e, length-drop (8 * row) walls, length-append chunk left);
+      is_row = rw e (sym (take_at chunk left 8 long));
+      leaves = rw (← next, ← drop-drop 8 (8 * row) walls, e) (sym (drop_at chunk left 8 long));
+    }
+
+-- Where less than a row is left, every wall has been taken.
+pub last_wall : (walls : List ℕ) (row : ℕ) {rest : List ℕ} → row ≤ length walls / 8 → rest ≡ drop (8 * row) walls → length rest < 8 → row ≡ length walls / 8
+last_wall walls row within so_far short = omega (arith, ap length so_far, length-drop (8 * row) walls)
 
 module _ (walls : List ℕ) (row : ℕ) where
-  wall_cell : (column : ℕ) → column < 8 → cell (wall_lent walls row) 0 column ≡ cell walls row column
-  wall_cell column inside = rw (lent_part (8 * row) 8 walls, zero-add column) (part_element (8 * row) 8 walls column inside)
+  wall_cell : (column : ℕ) → column < 8 → cell (part 8 row walls) 0 column ≡ cell walls row column
+  wall_cell column inside = rw zero-add (part_at 8 row walls column inside)
 
-  wall_direction_lem : (direction : ℕ) → in_direction (wall_lent walls row) direction 0 ≡ in_direction walls direction row
+  wall_direction_lem : (direction : ℕ) → in_direction (part 8 row walls) direction 0 ≡ in_direction walls direction row
   unfolding in_direction
   wall_direction_lem direction = rw (wall_cell 2 (lit< tt))
 
-  wall_solid : (direction end : ℕ) → solid_at_end (wall_lent walls row) direction end 0 ≡ solid_at_end walls direction end row
+  wall_solid : (direction end : ℕ) → solid_at_end (part 8 row walls) direction end 0 ≡ solid_at_end walls direction end row
   unfolding solid_at_end in_direction
   wall_solid direction end = rw (wall_cell 2 (lit< tt), wall_cell 3 (lit< tt), wall_cell 7 (lit< tt))
 
-  pub wall_same : wall_of (wall_lent walls row) 0 ≡ wall_of walls row
+  wall_same : wall_of (part 8 row walls) 0 ≡ wall_of walls row
   wall_same = rw (wall_cell 4 (lit< tt), wall_cell 5 (lit< tt), wall_cell 6 (lit< tt), wall_cell 7 (lit< tt))
+
+-- The walls are no more than a house may have, and none is longer than a wall may be.
+pub record WallsFit (walls : List ℕ) : Type 0 where
+  pub few : length walls / 8 ≤ most_walls
+  pub short : (row : ℕ) → row < length walls / 8 → (wall_of walls row).length ≤ 20000
 
 module _ (house : House) (storey : ℕ) (walls : List ℕ) where
   abbrev counts : ℕ → ℕ
@@ -53,10 +79,11 @@ module _ (house : House) (storey : ℕ) (walls : List ℕ) where
     pub no_walls : no_sums ≡ sums_over house storey walls direction 0
     no_walls = rw (held_none along counts, held_none (solid_at end_a) counts, held_none (solid_at end_b) counts)
 
-    pub wall_more : (row : ℕ) {sums : HeldSums} {counted : ℕ} → sums ≡ sums_over house storey walls direction row → counted ≡ counts row
-        → with_wall (wall_lent walls row) direction counted sums ≡ sums_over house storey walls direction (row + 1)
-    wall_more row so_far count =
+    pub wall_more : (row : ℕ) {wall : List ℕ} {sums : HeldSums} {counted : ℕ} → wall ≡ part 8 row walls → sums ≡ sums_over house storey walls direction row
+        → counted ≡ counts row → with_wall wall direction counted sums ≡ sums_over house storey walls direction (row + 1)
+    wall_more row is so_far count =
         rw (
+          is,
           so_far,
           count,
           wall_direction_lem walls row direction,
@@ -66,6 +93,11 @@ module _ (house : House) (storey : ℕ) (walls : List ℕ) where
           held_more (solid_at end_a) counts row,
           held_more (solid_at end_b) counts row,
         )
+
+  -- What a wall counts, by its row.
+  pub wall_counts : (row : ℕ) {wall : List ℕ} {found : Wall} {counted : ℕ} → wall ≡ part 8 row walls → found ≡ wall_of wall 0
+      → counted ≡ wall_share house storey found → counted ≡ counts row
+  wall_counts row is found counts = counts ∙ rw (found, is, wall_same walls row)
 
   -- Walls that fit hold no more than `method` computes with.
   module _ (fit : WallsFit walls) where
@@ -110,7 +142,7 @@ module _ (table : List ℕ) (h : (judging table).number ≡ 0) (storey : ℕ) wh
   storey_held_most direction = sum_most (house_of table) storey (storey_walls table storey) walls_fit _ _ (le_refl _)
 
 -- The sums over all walls of a storey are what it holds.
-pub sums_whole : (table : List ℕ) (storey direction : ℕ) {house : House} {walls : List ℕ} → house ≡ house_of table → walls ≡ storey_walls table storey
-    → sums_over house storey walls direction (length walls / 8) ≡ held_sums table storey direction
+pub sums_whole : (table : List ℕ) (storey direction : ℕ) {house : House} → house ≡ house_of table
+    → sums_over house storey (storey_walls table storey) direction (length (storey_walls table storey) / 8) ≡ held_sums table storey direction
 unfolding held end_held
-sums_whole table storey direction house walls = rw (house, walls)
+sums_whole table storey direction house = rw house

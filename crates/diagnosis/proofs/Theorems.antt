@@ -1,8 +1,7 @@
 -- The theorems about a house's diagnosis, in the order of document 01. Each is proved where it is cited from; the words of its statement are
 -- defined in specs/. Assumes nothing.
-use Rattle.std.proofs.Common.{◌≡◌, true, false, List, [], ◌∷◌, ℕ, ◌+◌, ◌*◌, ◌<◌, ◌≤◌, min, arith, length, get_or, set, take, replicate, eqb}
-use Rattle.answer.specs.declared.Answer.{Answer}
-use Rattle.answer.specs.declared.Answer.TheVariants.{Count}
+use Rattle.std.proofs.Common.{◌≡◌, Result, Ok, true, false, List, [], ◌∷◌, ℕ, ◌+◌, ◌*◌, ◌<◌, ◌≤◌, min, arith, length, get_or, set, take, replicate, eqb}
+use Rattle.answer.specs.declared.refusal.Refusal.{Refusal}
 use Rattle.answer.specs.Told.{told, counted, lent_space_short}
 use Rattle.answer.specs.Text.{bytes}
 use Rattle.answer.specs.Houses.{p1_sheet, p1}
@@ -11,11 +10,9 @@ use Rattle.sheet.specs.Sheet.{writing, after_writing}
 use Rattle.survey.specs.Table.{cell, storeys}
 use Rattle.survey.specs.Judgement.{judging, within}
 use Rattle.method.specs.Worked.{worked, expected}
-use Rattle.diagnosis.specs.declared.scores.Outcome.TheVariants.{Scored, Refused}
-use Rattle.diagnosis.specs.declared.scores.Scoring.{Scoring}
 use Rattle.diagnosis.specs.Rows.{weight, zone, ground_class, marked, repaired, survey_day}
 use Rattle.diagnosis.specs.House.{InHouse, held, required, layout, higher_band, deterioration, score_before, full_score, least_score, house_verdict}
-use Rattle.diagnosis.specs.Answers.{told_outcome, told_scoring, record_of, scoring}
+use Rattle.diagnosis.specs.Answers.{Scoring, told_scoring, record_of, scoring}
 use Rattle.diagnosis.specs.Report.{report_rows, report_lines, report_bytes, reporting}
 use Rattle.diagnosis.specs.Program.{table_of, diagnosing, after_diagnosing, most_report_bytes, output}
 use Rattle.diagnosis.specs.Comparison.{may_differ, NoLower, SameOrWorse, BandKept, score_at, NoBetter, Applies}
@@ -50,11 +47,11 @@ record_score = score_lists.record_score
 pub record_divided : (table : List ℕ) → (judging table).number ≡ 0 → (storey direction : ℕ) → InHouse table storey direction
     → (a : Scoring) → told_scoring a ≡ scoring table
     → let place : List ℕ → ℕ = λ numbers. get_or numbers (score_at storey direction) 0 in
-    (place a.result.hundredths * place a.result.divisors + place a.result.remainders
+    (place (told_scoring a).result.hundredths * place (told_scoring a).result.divisors + place (told_scoring a).result.remainders
     ≡ 1000 * held table storey direction * layout table storey direction * (deterioration table).upper)
-    × (place a.result.remainders < place a.result.divisors)
-    × (place a.result.divisors ≡ required table storey * (deterioration table).lower)
-    × (place a.result.scores ≡ min (place a.result.hundredths) 999)
+    × (place (told_scoring a).result.remainders < place (told_scoring a).result.divisors)
+    × (place (told_scoring a).result.divisors ≡ required table storey * (deterioration table).lower)
+    × (place (told_scoring a).result.scores ≡ min (place (told_scoring a).result.hundredths) 999)
 record_divided = record_numbers.record_divided
 
 -- Score, hundredths, remainder and divisor in X and in Y: of P1; with a small floor, where they are above the limit; without marks, at 99 and at 100;
@@ -102,11 +99,11 @@ pub comparison_in_full : (A B : List ℕ)
     → (score_before B storey direction ≤ score_before A storey direction)
     × (higher_band B storey direction ≡ higher_band A storey direction → full_score B storey direction ≤ full_score A storey direction)
     × ((a b : Scoring) → told_scoring a ≡ scoring A → told_scoring b ≡ scoring B → higher_band B storey direction ≡ higher_band A storey direction
-    → get_or b.result.scores (score_at storey direction) 0 ≤ get_or a.result.scores (score_at storey direction) 0))
+    → get_or (told_scoring b).result.scores (score_at storey direction) 0 ≤ get_or (told_scoring a).result.scores (score_at storey direction) 0))
     × (((storey direction : ℕ) → 1 ≤ storey → storey ≤ storeys A → 1 ≤ direction → direction ≤ 2
     → higher_band B storey direction ≡ higher_band A storey direction)
     → (house_verdict A ≤ house_verdict B)
-    × ((a b : Scoring) → told_scoring a ≡ scoring A → told_scoring b ≡ scoring B → a.result.verdict ≤ b.result.verdict))
+    × ((a b : Scoring) → told_scoring a ≡ scoring A → told_scoring b ≡ scoring B → (told_scoring a).result.verdict ≤ (told_scoring b).result.verdict))
 comparison_in_full A B A_accepted B_accepted rows same heavier higher softer later marks =
     let no_lower : NoLower A B = record { heavier = heavier; higher = higher; softer = softer; later = later } in
     let worse : SameOrWorse A B = record { A_accepted = A_accepted; B_accepted = B_accepted; rows = rows; same = same; no_lower = no_lower; marks = marks } in
@@ -164,8 +161,7 @@ pub all_worse_divided :
     × (38 ≡ min 38 999)
 all_worse_divided =
     let here : InHouse all_worse 1 1 = record { some_storey = omega arith; last_storey = omega arith; some_direction = omega arith; last_direction = omega arith } in
-    let scored : Scoring = record { outcome = Scored; result = record_of all_worse } in
-    rw worsened_records.2 at (record_divided all_worse worsened.5.worse.B_accepted 1 1 here scored examples.all_worse_scored)
+    record_divided all_worse worsened.5.worse.B_accepted 1 1 here examples.all_worse_scoring examples.all_worse_scored
 
 -- The record of a house on which work started on the grant's last day says so, and a day later it does not.
 pub grants_last_day_lem :
@@ -176,15 +172,21 @@ grants_last_day_lem = examples.grants_last_day_lem
 -- P1 with age 2 is refused, and its record is all 0, though work on it started by that day.
 pub refused_record :
     scoring (set p1 6 2)
-    ≡ told_outcome (Refused 4 1 7) (record {
-      scores = 0 ∷ 0 ∷ 0 ∷ 0 ∷ 0 ∷ 0 ∷ [];
-      count = 0;
-      verdict = 0;
-      started_by_31_may_1981 = 0;
-      hundredths = 0 ∷ 0 ∷ 0 ∷ 0 ∷ 0 ∷ 0 ∷ [];
-      remainders = 0 ∷ 0 ∷ 0 ∷ 0 ∷ 0 ∷ 0 ∷ [];
-      divisors = 0 ∷ 0 ∷ 0 ∷ 0 ∷ 0 ∷ 0 ∷ [];
-    })
+    ≡ record {
+      scored = false;
+      number = 4;
+      row = 1;
+      column = 7;
+      result = record {
+        scores = 0 ∷ 0 ∷ 0 ∷ 0 ∷ 0 ∷ 0 ∷ [];
+        count = 0;
+        verdict = 0;
+        started_by_31_may_1981 = 0;
+        hundredths = 0 ∷ 0 ∷ 0 ∷ 0 ∷ 0 ∷ 0 ∷ [];
+        remainders = 0 ∷ 0 ∷ 0 ∷ 0 ∷ 0 ∷ 0 ∷ [];
+        divisors = 0 ∷ 0 ∷ 0 ∷ 0 ∷ 0 ∷ 0 ∷ [];
+      };
+    }
 refused_record = examples.refused_record
 
 pub worsened_verdict : house_verdict sound ≤ house_verdict all_worse
@@ -299,7 +301,7 @@ pub short_only : (sheet : List ℕ) (lent : ℕ) → (diagnosing sheet lent).num
 short_only = program.short_only
 
 -- No more bytes are counted than were lent.
-pub diagnosed_within : (sheet : List ℕ) (lent : ℕ) (answer : Answer) (count : ℕ) → told answer ≡ diagnosing sheet lent → answer ≡ Count count → count ≤ lent
+pub diagnosed_within : (sheet : List ℕ) (lent : ℕ) (answer : Result ℕ Refusal) (count : ℕ) → told answer ≡ diagnosing sheet lent → answer ≡ Ok count → count ≤ lent
 diagnosed_within sheet lent answer count diagnosed e = (program.diagnosed_count sheet lent diagnosed e).2
 
 -- The program never prints 9, and never more than the longest report.

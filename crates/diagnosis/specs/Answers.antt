@@ -1,16 +1,39 @@
 -- What scoring answers. Document 01: "scoring has its record in place of the count, all 0 when refused"; "The library answers with a record of
 -- up to six scores with the verdict." Document 02, request 3: it "also says whether work started by 31 May 1981", and request 4: it "gives beside
 -- each score, the whole hundredths, the remainder and the divisor".
-use Rattle.std.specs.Prelude.{Bool, true, false, cond, List, [], ◌∷◌, ℕ, ◌*◌}
-use Rattle.answer.specs.Told.{accepts}
+use Rattle.std.specs.Prelude.{Bool, true, false, cond, List, [], ◌∷◌, ℕ, ◌*◌, map, Result, Ok, Err}
+use Rattle.answer.specs.declared.refusal.Refusal.{Refusal}
+use Rattle.answer.specs.Told.{number_of, accepts}
 use Rattle.answer.specs.Lists.{over}
 use Rattle.survey.specs.Table.{storeys}
 use Rattle.survey.specs.Judgement.{judging}
-use Rattle.diagnosis.specs.declared.scores.Outcome.{Outcome}
-use Rattle.diagnosis.specs.declared.scores.Outcome.TheVariants.{Scored, Refused}
+use Rattle.method.specs.declared.scores.Quotient.{Quotient}
+use Rattle.method.specs.Verdicts.{verdict_number}
 use Rattle.diagnosis.specs.declared.scores.Record.{Record}
-use Rattle.diagnosis.specs.declared.scores.Scoring.{Scoring}
 use Rattle.diagnosis.specs.House.{full_score, full_quotient, storey_by_storey, house_verdict, started_by_31_may_1981}
+
+-- The paper's values of a record: six scores, storey by storey and in each storey X before Y, their count, the verdict, 1 where work started by
+-- 31 May 1981, else 0, and beside the scores six whole hundredths, remainders and divisors.
+pub record ToldRecord : Type 0 where
+  pub scores : List ℕ
+  pub count : ℕ
+  pub verdict : ℕ
+  pub started_by_31_may_1981 : ℕ
+  pub hundredths : List ℕ
+  pub remainders : List ℕ
+  pub divisors : List ℕ
+
+-- What the code's record tells.
+abbrev pub told_record : Record → ToldRecord
+told_record r = record {
+  scores = r.scores;
+  count = r.count;
+  verdict = verdict_number r.verdict;
+  started_by_31_may_1981 = cond r.started_by_31_may_1981 1 0;
+  hundredths = map (λ (q : Quotient). q.hundredths) r.quotients;
+  remainders = map (λ (q : Quotient). q.remainder) r.quotients;
+  divisors = map (λ (q : Quotient). q.divisor) r.quotients;
+}
 
 -- The paper's values: whether the table is scored; a refusal's number (0 where it is), its row and column; and the record.
 pub record ToldScoring : Type 0 where
@@ -18,15 +41,7 @@ pub record ToldScoring : Type 0 where
   pub number : ℕ
   pub row : ℕ
   pub column : ℕ
-  pub result : Record
-
--- The paper's number and values for each case of the code's enum, and the record beside it.
-abbrev pub told_outcome : Outcome → Record → ToldScoring
-told_outcome Scored result = record { scored = true; number = 0; row = 0; column = 0; result = result }
-told_outcome (Refused number row column) result = record { scored = false; number = number; row = row; column = column; result = result }
-
-abbrev pub told_scoring : Scoring → ToldScoring
-told_scoring answer = told_outcome answer.outcome answer.result
+  pub result : ToldRecord
 
 -- Six places with nothing in them; and a number for each storey and direction of a house, from the front of six places.
 abbrev pub no_numbers : List ℕ
@@ -36,7 +51,7 @@ unfoldable pub six_numbers : List ℕ → (ℕ → ℕ → ℕ) → List ℕ
 six_numbers table number = over no_numbers (storey_by_storey table number)
 
 -- "all 0 when refused".
-abbrev pub no_record : Record
+abbrev pub no_record : ToldRecord
 no_record = record {
   scores = no_numbers;
   count = 0;
@@ -49,7 +64,7 @@ no_record = record {
 
 -- The record of a house: its scores, their count, the verdict, whether work started by 31 May 1981, and beside each score its hundredths, remainder
 -- and divisor.
-unfoldable pub record_of : List ℕ → Record
+unfoldable pub record_of : List ℕ → ToldRecord
 record_of table = record {
   scores = six_numbers table (full_score table);
   count = 2 * storeys table;
@@ -60,8 +75,21 @@ record_of table = record {
   divisors = six_numbers table (λ storey direction. (full_quotient table storey direction).divisor);
 }
 
+-- What is told where a table is scored, and where it is refused.
+abbrev pub told_scored : ToldRecord → ToldScoring
+told_scored result = record { scored = true; number = 0; row = 0; column = 0; result = result }
+
+abbrev pub told_refused : ℕ → ℕ → ℕ → ToldScoring
+told_refused number row column = record { scored = false; number = number; row = row; column = column; result = no_record }
+
+-- What the code answers, and the paper's number and values for each case of it.
+abbrev pub Scoring : Type 0
+Scoring = Result Record Refusal
+
+abbrev pub told_scoring : Scoring → ToldScoring
+told_scoring (Ok r) = told_scored (told_record r)
+told_scoring (Err r) = told_refused (number_of r.reason) r.row r.column
+
 -- The answer of scoring a table: the refusal of judging it, or its record.
 unfoldable pub scoring : List ℕ → ToldScoring
-scoring table =
-    let judged = judging table in
-    cond (accepts judged) (told_outcome Scored (record_of table)) (told_outcome (Refused judged.number judged.row judged.column) no_record)
+scoring table = let judged = judging table in cond (accepts judged) (told_scored (record_of table)) (told_refused judged.number judged.row judged.column)

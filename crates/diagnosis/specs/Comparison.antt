@@ -6,10 +6,9 @@
 use Rattle.std.specs.Prelude.{◌≡◌, Bool, true, false, ◌&&◌, ◌||◌, List, ℕ, ◌+◌, ◌-◌, ◌*◌, ◌<◌, ◌≤◌, length, get_or, eqb}
 use Rattle.survey.specs.Table.{cell, parts_row, dates_row}
 use Rattle.survey.specs.Judgement.{judging, within}
-use Rattle.diagnosis.specs.declared.scores.Scoring.{Scoring}
 use Rattle.diagnosis.specs.Rows.{weight_column, zone_column, ground_column, marked_column, survey_day_column, weight, zone, ground_class, marked, survey_day}
 use Rattle.diagnosis.specs.House.{InHouse, higher_band, score_before, full_score, house_verdict}
-use Rattle.diagnosis.specs.Answers.{told_scoring, scoring}
+use Rattle.diagnosis.specs.Answers.{Scoring, told_scoring, scoring}
 
 -- The columns that may differ: 3, 4 and 5 of the house row (weight class, zone, ground), the marked set and the survey day.
 abbrev pub house_may_differ : ℕ → Bool
@@ -66,10 +65,10 @@ pub record NoBetter (A B : List ℕ) : Type 0 where
   -- meet the promise of `score`.
   pub record_full : (a b : Scoring) → told_scoring a ≡ scoring A → told_scoring b ≡ scoring B
       → (storey direction : ℕ) → InHouse A storey direction → BandKept A B storey direction
-      → get_or b.result.scores (score_at storey direction) 0 ≤ get_or a.result.scores (score_at storey direction) 0
+      → get_or (told_scoring b).result.scores (score_at storey direction) 0 ≤ get_or (told_scoring a).result.scores (score_at storey direction) 0
   pub record_verdict : (a b : Scoring) → told_scoring a ≡ scoring A → told_scoring b ≡ scoring B
       → ((storey direction : ℕ) → InHouse A storey direction → BandKept A B storey direction)
-      → a.result.verdict ≤ b.result.verdict
+      → (told_scoring a).result.verdict ≤ (told_scoring b).result.verdict
 
 -- A pair to which all of demand 3 applies: B is A made worse, and every better end stays in its band.
 pub record Applies (A B : List ℕ) : Type 0 where

@@ -2,7 +2,7 @@
 -- direction; held in 0.01 kN rounded down; required in 0.01 kN rounded up; layout; deterioration in hundredths rounded down; score. Then 7;
 -- verdict; least score; five 0s."
 use Rattle.std.specs.Prelude.{cond, List, [], ◌∷◌, ◌++◌, ℕ, ◌+◌, ◌-◌, ◌*◌, ◌/◌, length, ltb}
-use Rattle.answer.specs.Told.{Told, counted, refusal, accepts, lent_space_short}
+use Rattle.answer.specs.Told.{Told, counted, refusal, refusal_row, accepts, lent_space_short}
 use Rattle.answer.specs.Lists.{joined, over}
 use Rattle.sheet.specs.Line.{line}
 use Rattle.sheet.specs.Sheet.{lines_of}
@@ -71,9 +71,6 @@ reporting table lent =
 unfoldable pub after_reporting : List ℕ → List ℕ → List ℕ
 after_reporting table report = cond (accepts (reporting table (length report))) (over report (report_bytes table)) report
 
--- "For a refused sheet it prints one line alone: 0; refusal number; row; column; four 0s."
-abbrev pub refusal_row : ℕ → ℕ → ℕ → List ℕ
-refusal_row number row column = 0 ∷ number ∷ row ∷ column ∷ 0 ∷ 0 ∷ 0 ∷ 0 ∷ []
-
+-- The one line that is printed for a refused sheet.
 unfoldable pub refusal_line : ℕ → ℕ → ℕ → List ℕ
 refusal_line number row column = line (refusal_row number row column)

@@ -9,7 +9,7 @@ use Rattle.method.specs.declared.rows.Storey.{Storey}
 use Rattle.method.specs.declared.rows.HousePart.{HousePart}
 use Rattle.method.specs.declared.rows.Wall.{Wall}
 use Rattle.method.specs.declared.rows.Items.{Items}
-use Rattle.diagnosis.specs.declared.rows.Dates.{Dates}
+use Rattle.diagnosis.specs.declared.accepted.Dates.{Dates}
 
 -- The columns that two houses compared may differ in: of the house row,
 abbrev pub weight_column : ℕ

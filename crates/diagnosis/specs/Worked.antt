@@ -4,10 +4,9 @@ use Rattle.std.specs.Prelude.{List, [], ◌∷◌, ◌++◌, ℕ, ◌+◌, ◌*�
 use Rattle.answer.specs.Text.{bytes}
 use Rattle.answer.specs.Houses.{two_storeys}
 use Rattle.survey.specs.Table.{parts_row}
-use Rattle.diagnosis.specs.declared.scores.Record.{Record}
 use Rattle.diagnosis.specs.Rows.{snow_column, repaired_column}
 use Rattle.diagnosis.specs.House.{higher_band, score_before, scores}
-use Rattle.diagnosis.specs.Answers.{scoring}
+use Rattle.diagnosis.specs.Answers.{ToldRecord, scoring}
 
 -- P1's report, the three lines that document 01 prints.
 abbrev pub p1_report : List ℕ
@@ -17,7 +16,7 @@ p1_report =
     ++ bytes "       7       4      47       0       0       0       0       0\n"
 
 -- Its record.
-abbrev pub p1_record : Record
+abbrev pub p1_record : ToldRecord
 p1_record = record {
   scores = 47 ∷ 83 ∷ 0 ∷ 0 ∷ 0 ∷ 0 ∷ [];
   count = 2;
@@ -120,7 +119,7 @@ abbrev pub all_worse : List ℕ
 all_worse = two_storeys 2 100 2 ten_day 2056
 
 -- The records of the first and the last of them.
-abbrev pub sound_record : Record
+abbrev pub sound_record : ToldRecord
 sound_record = record {
   scores = 131 ∷ 200 ∷ 350 ∷ 250 ∷ 0 ∷ 0 ∷ [];
   count = 4;
@@ -131,7 +130,7 @@ sound_record = record {
   divisors = 29_880_000_000 ∷ 29_880_000_000 ∷ 9_990_000_000 ∷ 9_990_000_000 ∷ 0 ∷ 0 ∷ [];
 }
 
-abbrev pub all_worse_record : Record
+abbrev pub all_worse_record : ToldRecord
 all_worse_record = record {
   scores = 38 ∷ 74 ∷ 116 ∷ 82 ∷ 0 ∷ 0 ∷ [];
   count = 4;

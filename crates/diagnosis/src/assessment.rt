@@ -1,21 +1,18 @@
 // What is worked out for a house, storey by storey and direction by direction. Record and report are made
 // of it.
-ghost use Rattle.std.specs.Prelude.{◌≡◌, min};
-ghost use Rattle.diagnosis.specs.House.{end_band, deterioration, assessment_with};
-ghost use Rattle.diagnosis.specs.Internal.{Stands, HouseOf, EndGiven, Assessable, AllFit, all_held, house_assessment_with, house_assessment};
+ghost use Rattle.diagnosis.specs.Premises.{Printable};
 
-use crate::held::{HeldSums, house_sums};
-use crate::rows::{dates_of, end_part, house_of, items_of, repaired, storey_of, storey_part};
+use crate::accepted::{AcceptedTable, Direction, End};
+use crate::held::HeldSums;
 use calendar::age_on;
 use method::{
-    Bands, Fraction, House, Quotient, Strengths, after_repair, band, deterioration_factor,
+    Bands, Fraction, HousePart, Quotient, Strengths, after_repair, band, deterioration_factor,
     floor_type, layout_factor, limited, narrow_factor, required_strength, score,
 };
-use survey::parts_row;
 
 // Held strength in 0.000001 kN, required strength in 0.000000001 kN, layout factor in hundredths, score;
 // and the score before it is limited, with what is left over.
-#[derive(Clone, Copy)]
+#[derive(Clone, Copy, Debug, PartialEq, Eq)]
 pub struct Assessment {
     pub held: u64,
     pub required: u64,
@@ -36,124 +33,101 @@ pub struct HouseAssessment {
     pub least: u32,
     // The deterioration factor.
     pub factor: Fraction,
+    pub ghost printable: { Printable places count factor },
 }
 
-// The deterioration factor of an accepted table's house, by its age on the survey day and by whether it was
-// repaired. The dates row is the one after the parts row, so that the walls are gone through once for both.
-fn deterioration(table: &[u32]) -> Fraction
-    requires { Stands table.now }
-    ensures { result ≡ deterioration table.now }
-{
-    let parts = parts_row(table);
-    let dates = dates_of(table, parts + 1);
-    let age = age_on(dates.completion, dates.survey);
-    let factor = deterioration_factor(items_of(table, parts), age);
-    after_repair(factor, repaired(table, parts))
-}
+// What stands in the places of a storey that the house lacks.
+const NO_ASSESSMENT: Assessment = Assessment {
+    held: 0,
+    required: 0,
+    layout: 0,
+    score: 0,
+    quotient: Quotient {
+        hundredths: 0,
+        remainder: 0,
+        divisor: 0,
+    },
+};
 
-// The band of an end, 0 for end a and 1 for end b, by its storey's narrow factor and what its solid walls
-// hold.
-fn end_band(
-    table: &[u32],
-    house: House,
-    storey: usize,
-    direction: usize,
-    end: usize,
-    factor: u8,
-    holds: u64,
-) -> u32
-    requires { EndGiven table.now house storey direction end factor holds }
-    ensures { result ≡ end_band table.now storey direction end }
-{
-    let part = end_part(table, house, storey, direction, end);
-    band(Strengths {
-        held: holds,
-        required: required_strength(house, part, factor),
-    })
-}
+impl AcceptedTable<'_> {
+    ghost use Rattle.std.specs.Prelude.{◌≡◌};
+    ghost use Rattle.diagnosis.specs.House.{deterioration, assessment};
+    ghost use Rattle.diagnosis.specs.Internal.{part_band, Assessable, WorkedOut, direction_number};
 
-// A storey and direction, by what it holds. `factor` is the house's deterioration factor.
-fn assess(
-    table: &[u32],
-    house: House,
-    storey: usize,
-    direction: usize,
-    sums: HeldSums,
-    factor: Fraction,
-) -> Assessment
-    requires { Assessable table.now house storey direction sums factor }
-    ensures { result ≡ assessment_with table.now sums.all storey direction }
-{
-    let row = storey_of(table, storey);
-    let narrow = narrow_factor(house, row);
-    let held = sums.all;
-    let required = required_strength(house, storey_part(house, row), narrow);
-    let ends = Bands {
-        a: end_band(table, house, storey, direction, 0, narrow, sums.a),
-        b: end_band(table, house, storey, direction, 1, narrow, sums.b),
-    };
-    let layout = layout_factor(ends, floor_type(row));
-    let quotient = score(Strengths { held, required }, layout, factor);
-    Assessment {
-        held,
-        required,
-        layout,
-        score: limited(quotient),
-        quotient,
+    // The deterioration factor, by the house's age on the survey day and by whether it was repaired.
+    #[tactic(auto, unfolding(crate::specs::House::deterioration))]
+    fn deterioration(&self) -> Fraction
+        ensures { result ≡ deterioration self.now.table.now }
+    {
+        let dates = self.dates();
+        let age = age_on(dates.completion, dates.survey);
+        let factor = deterioration_factor(self.items(), age);
+        after_repair(factor, self.repaired())
     }
-}
 
-// The lesser of two scores.
-fn lesser(one: u32, other: u32) -> u32
-    ensures { result ≡ min one other }
-{
-    if one < other {
-        return one;
+    // The band of an end, by its storey's narrow factor and what its solid walls hold.
+    fn end_band(&self, end: HousePart, narrow: u8, held: u64) -> u32
+        ensures { result ≡ part_band self.now.house end narrow held }
+    {
+        let required = required_strength(self.house, end, narrow);
+        band(Strengths { held, required })
     }
-    other
-}
 
-// An accepted table's house, by what each storey holds in each direction.
-pub(crate) fn assess_house_with(table: &[u32], house: House, sums: [HeldSums; 6]) -> HouseAssessment
-    requires house { HouseOf table.now house }
-    requires sums { AllFit table.now sums }
-    ensures { result ≡ house_assessment_with table.now (all_held sums) }
-{
-    let count = 2 * house.storeys as usize;
-    let factor = deterioration(table);
-    let none = Assessment {
-        held: 0,
-        required: 0,
-        layout: 0,
-        score: 0,
-        quotient: Quotient {
-            hundredths: 0,
-            remainder: 0,
-            divisor: 0,
-        },
-    };
-    let mut places = [none; 6];
-    let mut least = 999;
-    let mut at = 0;
-    while at < count {
-        let found = assess(table, house, at / 2 + 1, at % 2 + 1, sums[at], factor);
-        places[at] = found;
-        least = lesser(least, found.score);
-        at += 1;
+    // A storey and direction, by what it holds and the house's deterioration factor.
+    fn assess_direction(
+        &self,
+        storey: u32,
+        direction: Direction,
+        sums: HeldSums,
+        factor: Fraction,
+    ) -> Assessment
+        requires { Assessable self.now.table.now storey (direction_number direction) sums factor }
+        ensures { result ≡ assessment self.now.table.now storey (direction_number direction) }
+    {
+        let row = self.storey(storey);
+        let narrow = narrow_factor(self.house, row);
+        let held = sums.all;
+        let required = required_strength(self.house, self.storey_part(row), narrow);
+        let end_a = self.end_part(storey, direction, End::A);
+        let end_b = self.end_part(storey, direction, End::B);
+        let ends = Bands {
+            a: self.end_band(end_a, narrow, sums.a),
+            b: self.end_band(end_b, narrow, sums.b),
+        };
+        let layout = layout_factor(ends, floor_type(row));
+        let quotient = score(Strengths { held, required }, layout, factor);
+        Assessment {
+            held,
+            required,
+            layout,
+            score: limited(quotient),
+            quotient,
+        }
     }
-    HouseAssessment {
-        places,
-        count: count as u32,
-        least,
-        factor,
-    }
-}
 
-// An accepted table's house, by its own walls.
-pub(crate) fn assess_house(table: &[u32]) -> HouseAssessment
-    requires { Stands table.now }
-    ensures { result ≡ house_assessment table.now }
-{
-    let house = house_of(table);
-    assess_house_with(table, house, house_sums(table, house))
+    // The table's house.
+    pub fn assess(&self) -> HouseAssessment
+        ensures { WorkedOut self.now.table.now result }
+    {
+        let storeys = self.house.storeys;
+        let factor = self.deterioration();
+        let mut places = [NO_ASSESSMENT; 6];
+        let mut least: u32 = 999;
+        for below in 0..storeys {
+            let storey = below + 1;
+            let sums = self.storey_sums(storey);
+            let x = self.assess_direction(storey, Direction::X, sums.x, factor);
+            let y = self.assess_direction(storey, Direction::Y, sums.y, factor);
+            let at = 2 * below as usize;
+            places[at] = x;
+            places[at + 1] = y;
+            least = least.min(x.score).min(y.score);
+        }
+        HouseAssessment {
+            places,
+            count: 2 * storeys,
+            least,
+            factor,
+        }
+    }
 }

@@ -3,19 +3,19 @@
 // Uses `answer`, `calendar`, `sheet`, `survey` and `method`. Document 01, "Held strength" to "Score and
 // verdict", of a table's house; the definitions stand in specs/Rows.antt, House.antt, Answers.antt,
 // Report.antt and Program.antt, in that order. A table is judged once, by `survey`, before any number of
-// it is used. Rows fills `method`'s structs from a table, held sums what a storey's walls hold, and
-// assessment works out a house, storey by storey and direction by direction, once for record and report
-// alike. Scores, reports and program are what callers call. The comparison of two houses is stated in
-// specs/Comparison.antt. The theorems are in proofs/Theorems.antt.
+// it is used: accepted has it as an `AcceptedTable`, which fills `method`'s structs from its rows. Held sums
+// what a storey's walls hold, and assessment works out a house, storey by storey and direction by
+// direction, once for record and report alike. Scores, reports and program are what callers call. The
+// comparison of two houses is stated in specs/Comparison.antt. The theorems are in proofs/Theorems.antt.
 #![tactic(auto)]
 
+mod accepted;
 mod assessment;
 mod held;
 mod program;
 mod reports;
-mod rows;
 mod scores;
 
 pub use program::{ProgramOutput, diagnose, output_of};
 pub use reports::{MOST_REPORT_BYTES, report};
-pub use scores::{Outcome, Record, Scoring, score};
+pub use scores::{Record, score};

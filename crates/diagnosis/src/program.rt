@@ -1,15 +1,15 @@
 // The whole program on slices: from a sheet's bytes to its report's, or to the refusal.
-ghost use Rattle.std.specs.Prelude.{◌≡◌, length};
+ghost use Rattle.std.specs.Prelude.{◌≡◌, ◌≤◌, length, take};
 ghost use Rattle.answer.specs.Told.{told};
-ghost use Rattle.diagnosis.specs.Program.{most_numbers, diagnosing, after_diagnosing, most_report_bytes, output, output_bytes};
+ghost use Rattle.diagnosis.specs.Program.{diagnosing, after_diagnosing, most_report_bytes, output, output_bytes};
 
 use crate::reports;
-use crate::reports::{MOST_REPORT_BYTES, refusal_row};
+use crate::reports::MOST_REPORT_BYTES;
 use answer::{Answer, MOST_NUMBERS, ROW};
 use sheet::{LINE, print_rows, read};
 
 // What the scoring program prints for a sheet.
-#[derive(Clone, Copy)]
+#[derive(Clone, Copy, Debug, PartialEq, Eq)]
 pub struct ProgramOutput {
     // The count of the report's bytes, or the refusal.
     pub answer: Answer,
@@ -17,21 +17,15 @@ pub struct ProgramOutput {
     pub bytes: [u8; MOST_REPORT_BYTES],
     // How many bytes are printed.
     pub length: usize,
+    pub ghost within: { length ≤ most_report_bytes },
 }
 
-// Diagnoses a sheet: reads it into a table that has room for any sheet, and writes that table's report.
-fn diagnose_with_table(sheet: &[u8], table: &mut [u32], report: &mut [u8]) -> Answer
-    requires { length table.old ≡ most_numbers }
-    ensures answer { told result ≡ diagnosing sheet.now (length report.old) }
-    ensures report { report.new ≡ after_diagnosing sheet.now report.old }
-{
-    let answer = read(sheet, table);
-    match answer {
-        Answer::Refused { .. } => answer,
-        Answer::Count(rows) => {
-            let numbers = ROW * rows as usize;
-            reports::report(&table[0..numbers], report)
-        }
+impl ProgramOutput {
+    // What is printed.
+    pub fn printed(&self) -> &[u8]
+        ensures { result.now ≡ take self.now.length self.now.bytes }
+    {
+        &self.bytes[..self.length]
     }
 }
 
@@ -42,7 +36,9 @@ pub fn diagnose(sheet: &[u8], report: &mut [u8]) -> Answer
     ensures report { report.new ≡ after_diagnosing sheet.now report.old }
 {
     let mut table = [0u32; MOST_NUMBERS];
-    diagnose_with_table(sheet, &mut table, report)
+    let rows = read(sheet, &mut table)?;
+    let numbers = ROW * rows as usize;
+    reports::report(&table[..numbers], report)
 }
 
 // What the scoring program prints for any sheet: its report, or the line of its refusal alone.
@@ -50,26 +46,20 @@ pub fn output_of(sheet: &[u8]) -> ProgramOutput
     ensures answer { told result.answer ≡ diagnosing sheet.now most_report_bytes }
     ensures bytes { result.bytes ≡ output_bytes sheet.now }
     ensures length { result.length ≡ length (output sheet.now) }
+    ensures printed { take result.length result.bytes ≡ output sheet.now }
 {
     let mut bytes = [0u8; MOST_REPORT_BYTES];
     let answer = diagnose(sheet, &mut bytes);
-    match answer {
-        Answer::Count(count) => ProgramOutput {
-            answer,
-            bytes,
-            length: count as usize,
-        },
-        Answer::Refused {
-            number,
-            row,
-            column,
-        } => {
-            print_rows(&refusal_row(number, row, column), &mut bytes);
-            ProgramOutput {
-                answer,
-                bytes,
-                length: LINE,
-            }
+    let length = match answer {
+        Ok(count) => count as usize,
+        Err(refusal) => {
+            print_rows(&<[u32; ROW]>::from(refusal), &mut bytes);
+            LINE
         }
+    };
+    ProgramOutput {
+        answer,
+        bytes,
+        length,
     }
 }

@@ -1,17 +1,18 @@
-// A table's report, in the sheet's own columns, and the line of a refusal.
+// A table's report, in the sheet's own columns.
 ghost use Rattle.std.specs.Prelude.{◌≡◌, ◌≤◌, ◌<◌, ◌*◌, length};
 ghost use Rattle.answer.specs.Told.{told};
-ghost use Rattle.answer.specs.Lists.{joined, over};
+ghost use Rattle.answer.specs.Lists.{over};
 ghost use Rattle.method.specs.Held.{most_held};
 ghost use Rattle.method.specs.Required.{most_required};
-ghost use Rattle.diagnosis.specs.Report.{result_row, verdict_row, reporting, after_reporting, refusal_row};
-ghost use Rattle.diagnosis.specs.Internal.{row_by, lines_by, bytes_by, Printable, reporting_by, after_reporting_by};
+ghost use Rattle.diagnosis.specs.Report.{result_row, verdict_row, reporting, after_reporting};
+ghost use Rattle.diagnosis.specs.Internal.{lines_by, rows_by, reporting_by, after_reporting_by};
 
-use crate::assessment::{Assessment, HouseAssessment, assess_house};
-use answer::{Answer, LENT_SPACE_SHORT, ROW};
+use crate::accepted::AcceptedTable;
+use crate::assessment::{Assessment, HouseAssessment};
+use answer::{Answer, ROW, Reason, Refusal};
 use method::{Fraction, verdict};
 use sheet::{LINE, print_rows};
-use survey::judge;
+use survey::RowKind;
 
 // 0.01 kN in the units of held and of required strength.
 const HELD_UNIT: u64 = 10_000;
@@ -24,95 +25,66 @@ const MOST_LINES: usize = 7;
 pub const MOST_REPORT_BYTES: usize = LINE * MOST_LINES;
 
 // The row of a storey and direction, by what is worked out for it and the deterioration factor.
-fn result_row(storey: u32, direction: u32, found: Assessment, factor: Fraction) -> [u32; 8]
+fn result_row(storey: u32, direction: u32, found: Assessment, factor: Fraction) -> [u32; ROW]
     requires { (found.held ≤ most_held) × (found.required ≤ most_required) × (0 < factor.lower) }
     ensures { result ≡ result_row storey direction found factor }
 {
     let held = found.held / HELD_UNIT;
-    let required = (found.required + (REQUIRED_UNIT - 1)) / REQUIRED_UNIT;
-    let deterioration = 100 * factor.upper as u32 / factor.lower as u32;
+    let required = found.required.div_ceil(REQUIRED_UNIT);
+    let deterioration = 100 * u32::from(factor.upper) / u32::from(factor.lower);
     [
-        6,
+        RowKind::Result as u32,
         storey,
         direction,
         held as u32,
         required as u32,
-        found.layout as u32,
+        u32::from(found.layout),
         deterioration,
         found.score,
     ]
 }
 
 // The row of the verdict, by the least score.
-fn verdict_row(least: u32) -> [u32; 8]
+fn verdict_row(least: u32) -> [u32; ROW]
     ensures { result ≡ verdict_row least }
 {
-    [7, verdict(least), least, 0, 0, 0, 0, 0]
+    let number = u32::from(verdict(least));
+    [RowKind::Verdict as u32, number, least, 0, 0, 0, 0, 0]
 }
 
-// Copies a row.
-fn put_row(row: [u32; 8], to: &mut [u32])
-    requires { length to.old ≡ 8 }
-    ensures { to.new ≡ row }
-{
-    let mut column = 0;
-    while column < ROW {
-        to[column] = row[column];
-        column += 1;
+impl HouseAssessment {
+    // Writes the row of every storey and direction, and then the verdict's.
+    fn fill_rows(&self, rows: &mut [u32])
+        requires { 8 * lines_by self.now ≤ length rows.old }
+        ensures { rows.new ≡ over rows.old (rows_by self.now) }
+    {
+        let count = self.count as usize;
+        for (at, found) in self.places[..count].iter().enumerate() {
+            let number = at as u32;
+            let row = result_row(number / 2 + 1, number % 2 + 1, *found, self.factor);
+            rows[ROW * at..ROW * at + ROW].copy_from_slice(&row);
+        }
+        let last = ROW * count;
+        rows[last..last + ROW].copy_from_slice(&verdict_row(self.least));
     }
-}
 
-// Writes the row of every storey and direction.
-fn fill_results(found: HouseAssessment, rows: &mut [u32])
-    requires found { Printable found }
-    requires rows { 8 * found.count ≤ length rows.old }
-    ensures { rows.new ≡ over rows.old (joined found.count (row_by found)) }
-{
-    let factor = found.factor;
-    let count = found.count as usize;
-    let mut at = 0;
-    while at < count {
-        let number = at as u32;
-        let one = found.places[at];
-        let row = result_row(number / 2 + 1, number % 2 + 1, one, factor);
-        let from = ROW * at;
-        put_row(row, &mut rows[from..from + ROW]);
-        at += 1;
+    // Writes the report into lent bytes, where they have room for it: its rows are filled with numbers
+    // first, and then printed.
+    #[tactic(auto, using(std::proofs::lemmas::Bool::Decides::nat_tests, crate::proofs::ReportRows::rows_printed), unfolding(crate::specs::Internal::reporting_by, crate::specs::Internal::after_reporting_by))]
+    fn report(&self, report: &mut [u8]) -> Answer
+        ensures answer { told result ≡ reporting_by self.now (length report.old) }
+        ensures report { report.new ≡ after_reporting_by self.now report.old }
+    {
+        let lines = self.count as usize + 1;
+        let length = LINE * lines;
+        if report.len() < length {
+            return Err(Refusal::without_place(Reason::LentSpaceShort));
+        }
+        let mut rows = [0u32; ROW * MOST_LINES];
+        self.fill_rows(&mut rows);
+        print_rows(&rows[..ROW * lines], report);
+        Ok(length as u32)
     }
-}
-
-// Prints the report of what is worked out for a house, where there is room for it: its rows are filled with
-// numbers first, and then printed.
-fn print_report(found: HouseAssessment, rows: &mut [u32], report: &mut [u8])
-    requires found { Printable found }
-    requires rows { length rows.old ≡ 56 }
-    requires report { 65 * lines_by found ≤ length report.old }
-    ensures { report.new ≡ over report.old (bytes_by found) }
-{
-    fill_results(found, rows);
-    let results = ROW * found.count as usize;
-    let numbers = results + ROW;
-    put_row(verdict_row(found.least), &mut rows[results..numbers]);
-    print_rows(&rows[0..numbers], report);
-}
-
-// Writes the report of what is worked out for a house into lent bytes, where they have room for it.
-fn report_of(found: HouseAssessment, report: &mut [u8]) -> Answer
-    requires { Printable found }
-    ensures answer { told result ≡ reporting_by found (length report.old) }
-    ensures report { report.new ≡ after_reporting_by found report.old }
-{
-    let length = LINE * (found.count as usize + 1);
-    if report.len() < length {
-        return Answer::Refused {
-            number: LENT_SPACE_SHORT,
-            row: 0,
-            column: 0,
-        };
-    }
-    let mut rows = [0u32; ROW * MOST_LINES];
-    print_report(found, &mut rows, report);
-    Answer::Count(length as u32)
 }
 
 // Writes any table's report into lent bytes: the count of bytes written, or the refusal. Bytes after
@@ -121,16 +93,5 @@ pub fn report(table: &[u32], report: &mut [u8]) -> Answer
     ensures answer { told result ≡ reporting table.now (length report.old) }
     ensures report { report.new ≡ after_reporting table.now report.old }
 {
-    let judged = judge(table);
-    match judged {
-        Answer::Refused { .. } => judged,
-        Answer::Count(_) => report_of(assess_house(table), report),
-    }
-}
-
-// The row of a refusal.
-pub(crate) fn refusal_row(number: u32, row: u32, column: u32) -> [u32; 8]
-    ensures { result ≡ refusal_row number row column }
-{
-    [0, number, row, column, 0, 0, 0, 0]
+    AcceptedTable::judged(table)?.assess().report(report)
 }

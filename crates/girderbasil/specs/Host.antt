@@ -40,12 +40,11 @@ told_host_scoring answer = record {
   };
 }
 
+-- The struct that a host gets for what is printed: the number, row and column of the refusal that is told, if any, how many bytes are printed, and
+-- the bytes.
+abbrev pub host_output : Told → ℕ → List ℕ → HostOutput
+host_output answer printed bytes = record { number = answer.number; row = answer.row; column = answer.column; count = printed; bytes = bytes }
+
 -- What the scoring program prints for a sheet, from the front of 455 bytes, with the number, row and column of the refusal that it tells, if any.
 abbrev pub printed_for : List ℕ → HostOutput
-printed_for sheet = record {
-  number = (diagnosing sheet most_report_bytes).number;
-  row = (diagnosing sheet most_report_bytes).row;
-  column = (diagnosing sheet most_report_bytes).column;
-  count = length (output sheet);
-  bytes = output_bytes sheet;
-}
+printed_for sheet = host_output (diagnosing sheet most_report_bytes) (length (output sheet)) (output_bytes sheet)

@@ -7,15 +7,15 @@
 // interface for C.
 #![tactic(auto)]
 
-ghost use Rattle.std.specs.Prelude.{◌≡◌, length, eqb};
+ghost use Rattle.std.specs.Prelude.{◌≡◌, length};
 ghost use Rattle.answer.specs.Told.{told};
 ghost use Rattle.sheet.specs.Sheet.{reading, after_reading};
-ghost use Rattle.diagnosis.specs.Answers.{scoring};
+ghost use Rattle.diagnosis.specs.Answers.{told_scoring, scoring};
 ghost use Rattle.diagnosis.specs.Report.{reporting, after_reporting};
-ghost use Rattle.girderbasil.specs.Host.{told_host, host_numbers, told_host_scoring, printed_for};
+ghost use Rattle.girderbasil.specs.Host.{told_host, host_numbers, told_host_scoring, host_output, printed_for};
 
-use answer::Answer;
-use diagnosis::{MOST_REPORT_BYTES, Outcome, Record};
+use answer::{Answer, Refusal};
+use diagnosis::{MOST_REPORT_BYTES, ProgramOutput, Record};
 
 // Every answer begins with the same three fields, so that a host reads any refusal in one way.
 
@@ -61,27 +61,86 @@ pub struct HostOutput {
     pub bytes: [u8; MOST_REPORT_BYTES],
 }
 
-// An answer as a host gets it.
-fn host_answer(answer: Answer) -> HostAnswer
-    ensures { result ≡ host_numbers (told answer) }
-{
-    match answer {
-        Answer::Count(count) => HostAnswer {
-            number: 0,
-            row: 0,
-            column: 0,
-            count,
-        },
-        Answer::Refused {
-            number,
-            row,
-            column,
-        } => HostAnswer {
-            number,
-            row,
-            column,
-            count: 0,
-        },
+impl From<Answer> for HostAnswer {
+    ghost from_gives = { λ answer host. host ≡ host_numbers (told answer) };
+
+    fn from(answer: Answer) -> Self {
+        match answer {
+            Ok(count) => HostAnswer {
+                number: 0,
+                row: 0,
+                column: 0,
+                count,
+            },
+            Err(refusal) => HostAnswer {
+                number: refusal.reason.into(),
+                row: refusal.row,
+                column: refusal.column,
+                count: 0,
+            },
+        }
+    }
+}
+
+// No refusal and no record.
+const NOTHING: HostScoring = HostScoring {
+    number: 0,
+    row: 0,
+    column: 0,
+    scores: [0; 6],
+    count: 0,
+    verdict: 0,
+    started_by_31_may_1981: 0,
+    hundredths: [0; 6],
+    remainders: [0; 6],
+    divisors: [0; 6],
+};
+
+impl From<Result<Record, Refusal>> for HostScoring {
+    ghost from_gives = { λ scored host. told_host_scoring host ≡ told_scoring scored };
+
+    fn from(scored: Result<Record, Refusal>) -> Self {
+        match scored {
+            Ok(found) => {
+                let scores = found.scores;
+                let quotients = found.quotients;
+                let hundredths = quotients.map(|quotient| quotient.hundredths);
+                let remainders = quotients.map(|quotient| quotient.remainder);
+                let divisors = quotients.map(|quotient| quotient.divisor);
+                HostScoring {
+                    scores,
+                    count: found.count,
+                    verdict: found.verdict.into(),
+                    started_by_31_may_1981: found.started_by_31_may_1981.into(),
+                    hundredths,
+                    remainders,
+                    divisors,
+                    ..NOTHING
+                }
+            }
+            Err(refusal) => HostScoring {
+                number: refusal.reason.into(),
+                row: refusal.row,
+                column: refusal.column,
+                ..NOTHING
+            },
+        }
+    }
+}
+
+impl From<ProgramOutput> for HostOutput {
+    ghost from_gives = { λ printed host. host ≡ host_output (told printed.answer) printed.length printed.bytes };
+
+    fn from(printed: ProgramOutput) -> Self {
+        let tells = HostAnswer::from(printed.answer);
+        let bytes = printed.bytes;
+        HostOutput {
+            number: tells.number,
+            row: tells.row,
+            column: tells.column,
+            count: printed.length as u32,
+            bytes,
+        }
     }
 }
 
@@ -92,29 +151,7 @@ pub extern "C" fn girderbasil_read(sheet: &[u8], table: &mut [u32]) -> HostAnswe
     ensures answer { told_host result ≡ reading sheet.now (length table.old) }
     ensures table { table.new ≡ after_reading sheet.now table.old }
 {
-    host_answer(sheet::read(sheet, table))
-}
-
-// What scoring tells, as a host gets it.
-fn host_scoring(number: u32, row: u32, column: u32, recorded: Record) -> HostScoring
-    ensures { told_host_scoring result ≡ record { scored = eqb number 0; number = number; row = row; column = column; result = recorded } }
-{
-    let scores = recorded.scores;
-    let hundredths = recorded.hundredths;
-    let remainders = recorded.remainders;
-    let divisors = recorded.divisors;
-    HostScoring {
-        number,
-        row,
-        column,
-        scores,
-        count: recorded.count,
-        verdict: recorded.verdict,
-        started_by_31_may_1981: recorded.started_by_31_may_1981,
-        hundredths,
-        remainders,
-        divisors,
-    }
+    sheet::read(sheet, table).into()
 }
 
 // Scores a table: its record, or the refusal.
@@ -122,17 +159,7 @@ fn host_scoring(number: u32, row: u32, column: u32, recorded: Record) -> HostSco
 pub extern "C" fn girderbasil_score(table: &[u32]) -> HostScoring
     ensures { told_host_scoring result ≡ scoring table.now }
 {
-    let scoring = diagnosis::score(table);
-    let outcome = scoring.outcome;
-    let result = scoring.result;
-    match outcome {
-        Outcome::Scored => host_scoring(0, 0, 0, result),
-        Outcome::Refused {
-            number,
-            row,
-            column,
-        } => host_scoring(number, row, column, result),
-    }
+    diagnosis::score(table).into()
 }
 
 // Writes a table's report into lent bytes: the count of bytes written, or the refusal. Later bytes stay,
@@ -142,7 +169,7 @@ pub extern "C" fn girderbasil_write_report(table: &[u32], report: &mut [u8]) -> 
     ensures answer { told_host result ≡ reporting table.now (length report.old) }
     ensures report { report.new ≡ after_reporting table.now report.old }
 {
-    host_answer(diagnosis::report(table, report))
+    diagnosis::report(table, report).into()
 }
 
 // What the scoring program prints for a sheet: its report, or the line of its refusal alone. The host
@@ -151,15 +178,5 @@ pub extern "C" fn girderbasil_write_report(table: &[u32], report: &mut [u8]) -> 
 pub extern "C" fn girderbasil_diagnose(sheet: &[u8]) -> HostOutput
     ensures { result ≡ printed_for sheet.now }
 {
-    let output = diagnosis::output_of(sheet);
-    let answer = output.answer;
-    let tells = host_answer(answer);
-    let bytes = output.bytes;
-    HostOutput {
-        number: tells.number,
-        row: tells.row,
-        column: tells.column,
-        count: output.length as u32,
-        bytes,
-    }
+    diagnosis::output_of(sheet).into()
 }

@@ -1,32 +1,33 @@
 -- Bands and the layout factor: the test by which a band is computed; a band never rises as more is required, and with the higher band kept
 -- the factor never rises as bands fall. Assumes nothing.
-use Rattle.std.proofs.Common.{◌≡◌, refl, sym, ap, ◌∙◌, Bool, true, false, not, ◌&&◌, ◌||◌, [], ℕ, ◌+◌, ◌-◌, ◌*◌, ◌/◌, ◌%◌, ◌≤◌, zero-le, max, mul-add, mul_left_comm, mul-le-mul_left, le_refl, le_trans, add-le-add, arith, length, get_or, eqb, leb, lit≤, leb-true, leb-false, le-leb, eqb-true, eq-eqb}
+use Rattle.std.proofs.Common.{◌≡◌, refl, sym, ap, ◌∙◌, Bool, true, false, not, ◌&&◌, ◌||◌, [], ℕ, ◌+◌, ◌*◌, ◌/◌, ◌%◌, ◌≤◌, zero-le, max, mul-add, mul_left_comm, mul-le-mul_left, le_refl, le_trans, add-le-add, arith, length, get_or, unwrap_or, eqb, leb, lit≤, leb-true, leb-false, le-leb, eqb-true, eq-eqb}
 use native.Mathlib.Nat.{min-le_right}
 use native.Mathlib.Decide.{dec_le}
+use Rattle.std.specs.Int.{div_ceil}
 use lib.ListN.{get_or-eq_default}
 use borrow.Author.Tests.{lt-leb}
 use Rattle.method.specs.declared.rows.Storey.{Storey}
 use Rattle.method.specs.declared.rows.Strengths.{Strengths}
 use Rattle.method.specs.declared.rows.Bands.{Bands}
-use Rattle.method.specs.Printed.{nth}
+use Rattle.method.specs.Printed.{nth, numbered}
 use Rattle.method.specs.Worked.{bands}
 use Rattle.method.specs.LayoutFactor.{NoStronger, reached, band, floor_type, layout_factors, layout_factor}
-use Rattle.method.proofs.Tables.{nth_is, nth_none, implied, every, get_or_every, nth_every, small, short, every_below, at_every}
+use Rattle.method.proofs.Tables.{numbered_nth, nth_none, implied, every, get_or_every, nth_every, small, short, every_below, at_every}
 use Rattle.method.proofs.Branches.{cond_most, cond_least}
 
 -- The function's test, which has no product beyond 64 bits, is the definition's: limit × required / 100,000, rounded up, is at most what is
 -- held just where limit × required is at most 100,000 × held.
 pub reached_test : (held required limit : ℕ)
-    → leb (limit * (required / 100_000) + (limit * (required % 100_000) + 99_999) / 100_000) held ≡ leb (limit * required) (100_000 * held)
+    → leb (limit * (required / 100_000) + div_ceil (limit * (required % 100_000)) 100_000) held ≡ leb (limit * required) (100_000 * held)
 reached_test held required limit =
-    go (leb (limit * (required / 100_000) + (limit * (required % 100_000) + 99_999) / 100_000) held) refl
+    go (leb (limit * (required / 100_000) + div_ceil (limit * (required % 100_000)) 100_000) held) refl
   where
     apart : limit * required ≡ 100_000 * (limit * (required / 100_000)) + limit * (required % 100_000)
     apart =
         let sum : required ≡ 100_000 * (required / 100_000) + required % 100_000 = omega arith in
         ap (λ (n : ℕ). limit * n) sum ∙ rw (mul-add limit _ _, mul_left_comm limit 100_000 _)
 
-    go : (t : Bool) → leb (limit * (required / 100_000) + (limit * (required % 100_000) + 99_999) / 100_000) held ≡ t
+    go : (t : Bool) → leb (limit * (required / 100_000) + div_ceil (limit * (required % 100_000)) 100_000) held ≡ t
         → t ≡ leb (limit * required) (100_000 * held)
     go true e = sym (le-leb (limit * required) (100_000 * held) (omega (arith, apart, leb-true _ held e)))
     go false e = sym (lt-leb (limit * required) (100_000 * held) (omega (arith, apart, leb-false _ held e)))
@@ -66,9 +67,13 @@ floor_most storey most = cond_most (eqb storey.void 1) (λ e. min-le_right (stor
 
 -- What the layout factor is, by the table.
 module _ (ends : Bands) (floor : ℕ) where
-  pub layout_is : 1 ≤ floor → get_or (get_or (get_or layout_factors ends.a []) ends.b []) (floor - 1) 0 ≡ layout_factor ends floor
+  pub layout_numbered : unwrap_or (numbered (get_or (get_or layout_factors ends.a []) ends.b []) floor) 0 ≡ layout_factor ends floor
   unfolding layout_factor
-  layout_is some = sym (nth_is (get_or (get_or layout_factors ends.a []) ends.b []) floor 0 some)
+  layout_numbered = numbered_nth (get_or (get_or layout_factors ends.a []) ends.b []) floor 0
+
+  pub layout_no_pair : get_or (get_or layout_factors ends.a []) ends.b [] ≡ [] → 0 ≡ layout_factor ends floor
+  unfolding layout_factor
+  layout_no_pair none = rw none (sym (nth_none {A = ℕ} [] floor 0 (λ some most. omega arith)))
 
   pub layout_no_band : 5 ≤ ends.a → 0 ≡ layout_factor ends floor
   unfolding layout_factor
@@ -87,9 +92,6 @@ module _ (ends : Bands) (floor : ℕ) where
       let cell = get_or row ends.b [] in
       let three = leb-true (length cell) 3 (get_or_every (short 3) refl row (get_or_every (every (short 3)) refl layout_factors refl ends.a) ends.b) in
       sym (nth_none cell floor 0 (λ some most. none some (le_trans most three)))
-
--- What the layout factor is and where it is 0, for the returns of the function.
-pub ruleset layout_laws = (layout_is, layout_no_band, layout_no_other, layout_no_floor)
 
 -- No layout factor is above 100.
 pub layout_most : (ends : Bands) (floor : ℕ) → layout_factor ends floor ≤ 100

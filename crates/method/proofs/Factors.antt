@@ -1,15 +1,13 @@
 -- The joint factor: which printed entry it takes, and that it never exceeds 100. Assumes nothing.
-use Rattle.std.proofs.Common.{◌≡◌, refl, sym, ap, ◌∙◌, Bool, true, false, ◌&&◌, List, [], ◌∷◌, map, ℕ, ◌+◌, ◌-◌, ◌*◌, ◌<◌, ◌≤◌, zero-le, le_of_suc-le-suc, le_trans, mul-le-mul_right, div-lt_iff_lt-mul, arith, length, get_or, eqb, ltb, lit≤, leb-true, ltb-true, ltb-false, le-leb, eq-eqb, ne_eqb}
-use mathlib.Core.List.{flatten}
-use lib.ListN.{get_or-eq_default, get_or-map}
-use borrow.Author.Tests.{eqb-false}
+use Rattle.std.proofs.Common.{◌≡◌, refl, ap, ◌∙◌, Option, None, Some, Bool, true, false, ◌&&◌, List, [], ◌∷◌, ℕ, zero, suc, ◌-◌, ◌*◌, ◌<◌, ◌≤◌, le_of_suc-le-suc, mul-le-mul_right, div-lt_iff_lt-mul, arith, length, get_or, unwrap_or, eqb, ltb, leb-true, eqb-true, ltb-true, ltb-false}
+use Rattle.std.proofs.lemmas.Bool.{and_parts}
 use Rattle.method.specs.declared.rows.House.{House}
 use Rattle.method.specs.declared.rows.Wall.{Wall}
-use Rattle.method.specs.Printed.{nth}
+use Rattle.method.specs.Printed.{nth, numbered}
 use Rattle.method.specs.JointTables.{top_storey, other_storey, one_storey, at2, at3, at5, at7}
 use Rattle.method.specs.Held.{position, foundation_used, shared_row, top_entry, entry_in, entry, entries, interpolated, row_factor, joint_factor}
-use Rattle.method.proofs.Branches.{cond_most, cond_least, cond_same, cond_every}
-use Rattle.method.proofs.Tables.{nth_is, nth_none, and_true, every, get_or_every, nth_every, small, short, full, get_or_flatten}
+use Rattle.method.proofs.Branches.{cond_most, cond_every}
+use Rattle.method.proofs.Tables.{nth_none, numbered_nth, numbered_empty, every, get_or_every, nth_every, small, full}
 
 -- A test that every printed entry passes, of all snows and positions.
 abbrev every_top : (ℕ → Bool) → Bool
@@ -42,8 +40,8 @@ module _ (passes : ℕ → Bool) (default : passes 0 ≡ true) (snow position fo
   pub entry_every : every_entry passes ≡ true → passes (entry snow position foundation joint column) ≡ true
   unfolding entry
   entry_every all =
-      let apart = and_true (every_top passes) (every_in other_storey passes && every_in one_storey passes) all in
-      let others = and_true (every_in other_storey passes) (every_in one_storey passes) apart.1 in
+      let apart = and_parts (every_top passes) (every_in other_storey passes && every_in one_storey passes) all in
+      let others = and_parts (every_in other_storey passes) (every_in one_storey passes) apart.1 in
       cond_every passes (eqb position 1) (top_every apart.0)
       (cond_every passes (eqb position 2) (in_every other_storey others.0 joint) (in_every one_storey others.1 (shared_row joint)))
 
@@ -54,112 +52,60 @@ all_small = refl
 pub entry_most : (snow position foundation joint column : ℕ) → entry snow position foundation joint column ≤ 100
 entry_most snow position foundation joint column = leb-true _ 100 (entry_every (small 100) refl snow position foundation joint column all_small)
 
--- The table of one storey has three lines.
-pub shared_some : (joint : ℕ) → 1 ≤ joint → 1 ≤ shared_row joint
-unfolding shared_row
-shared_some joint some = cond_least (eqb joint 4) (λ e. lit≤ tt) (λ e. some)
+-- The code's row where there is none.
+abbrev none_printed : List ℕ
+none_printed = 0 ∷ 0 ∷ 0 ∷ 0 ∷ []
 
-pub shared_most : (joint : ℕ) → joint ≤ 4 → shared_row joint ≤ 3
-unfolding shared_row
-shared_most joint most = cond_most (eqb joint 4) (λ e. lit≤ tt) (λ e. omega (arith, most, eqb-false joint 4 e))
+-- A line of the top storey's table is its entries.
+line_is : (line : List ℕ) → full 4 line ≡ true → line ≡ entries (λ column. get_or line column 0)
+line_is [] four = cc
+line_is (a ∷ []) four = cc
+line_is (a ∷ b ∷ []) four = cc
+line_is (a ∷ b ∷ c ∷ []) four = cc
+line_is (a ∷ b ∷ c ∷ d ∷ []) four = refl
+line_is (a ∷ b ∷ c ∷ d ∷ e ∷ line) four = absurd (omega (arith, eqb-true (length (a ∷ b ∷ c ∷ d ∷ e ∷ line)) 4 four))
 
--- Where there is no printed entry, in any column.
+lines_are : (table : List (List ℕ)) → every (full 4) table ≡ true → (line : ℕ)
+    → unwrap_or (numbered table line) none_printed ≡ entries (λ column. get_or (nth table line []) column 0)
+unfolding numbered nth
+lines_are table four zero = refl
+lines_are [] four (suc n) = refl
+lines_are (line ∷ table) four (suc zero) = line_is line (and_parts (full 4 line) (every (full 4) table) four).0
+lines_are (line ∷ table) four (suc (suc n)) = lines_are table (and_parts (full 4 line) (every (full 4) table) four).1 (suc n)
+
 module _ (snow position foundation joint : ℕ) where
-  no_line : {A : Type 0} (tables : List (List (List A))) (most line : ℕ) → every (short most) tables ≡ true → (1 ≤ line → line ≤ most → ⊥)
-      → nth (get_or tables snow []) line [] ≡ []
-  no_line tables most line h none =
-      let lines = leb-true _ most (get_or_every (short most) (le-leb 0 most zero-le) tables h snow) in
-      nth_none (get_or tables snow []) line [] (λ some last. none some (le_trans last lines))
-
-  no_foundation : (tables : List (List (List (List ℕ)))) → every (every (every (short 3))) tables ≡ true → (line : ℕ)
-      → (1 ≤ foundation → foundation ≤ 3 → ⊥) → (column : ℕ) → 0 ≡ entry_in tables snow foundation line column
-  unfolding entry_in
-  no_foundation tables h line none column =
-      let table = get_or tables snow [] in
-      let row = nth table line [] in
-      let cell = get_or row column [] in
-      let Short_row = nth_every (every (short 3)) refl table (get_or_every (every (every (short 3))) refl tables h snow) line in
-      let three : length cell ≤ 3 = leb-true _ 3 (get_or_every (short 3) refl row Short_row column) in
-      sym (nth_none cell foundation 0 (λ some most. none some (le_trans most three)))
-
-  pub entry_no_snow : 4 ≤ snow → (column : ℕ) → 0 ≡ entry snow position foundation joint column
-  unfolding entry top_entry entry_in nth
-  entry_no_snow beyond column =
-      rw (
-        get_or-eq_default top_storey [] beyond,
-        get_or-eq_default other_storey [] beyond,
-        get_or-eq_default one_storey [] beyond,
-        nth_none {A = List ℕ} [] joint [] (λ some most. omega arith),
-        nth_none {A = List (List ℕ)} [] joint [] (λ some most. omega arith),
-        nth_none {A = List (List ℕ)} [] (shared_row joint) [] (λ some most. omega arith),
-        nth_none {A = ℕ} [] foundation 0 (λ some most. omega arith),
-      )
-      (cond_same (eqb position 1) refl (cond_same (eqb position 2) refl refl))
-
-  pub entry_no_joint : (1 ≤ joint → joint ≤ 4 → ⊥) → (column : ℕ) → 0 ≡ entry snow position foundation joint column
-  unfolding entry top_entry entry_in shared_row nth
-  entry_no_joint none column =
-      rw (
-        no_line top_storey 4 joint refl none,
-        no_line other_storey 4 joint refl none,
-        ne_eqb joint 4 (λ e. none (omega arith) (omega arith)),
-        no_line one_storey 3 joint refl (λ some most. none some (omega arith)),
-        nth_none {A = ℕ} [] foundation 0 (λ some most. omega arith),
-      )
-      (cond_same (eqb position 1) refl (cond_same (eqb position 2) refl refl))
-
-  pub entry_no_foundation : (position ≡ 1 → ⊥) → (1 ≤ foundation → foundation ≤ 3 → ⊥) → (column : ℕ) → 0 ≡ entry snow position foundation joint column
-  unfolding entry
-  entry_no_foundation below none column =
-      rw (ne_eqb position 1 below)
-      (cond_same (eqb position 2) (no_foundation other_storey refl joint none column) (no_foundation one_storey refl (shared_row joint) none column))
-
--- Rows whose entries are the same.
-entries_same : (one other : ℕ → ℕ) → ((column : ℕ) → one column ≡ other column) → entries one ≡ entries other
-entries_same one other same = λ i. same at2 i ∷ same at3 i ∷ same at5 i ∷ same at7 i ∷ []
-
--- What the entries of a row are, by the list of tables that has them; 0 where there are none.
-module _ (snow position foundation joint : ℕ) where
-  pub row_none : ((column : ℕ) → 0 ≡ entry snow position foundation joint column) → 0 ∷ 0 ∷ 0 ∷ 0 ∷ [] ≡ entries (entry snow position foundation joint)
-  row_none none = entries_same (λ column. 0) (entry snow position foundation joint) none
-
-  pub row_top : position ≡ 1 → 1 ≤ joint
-      → entries (λ column. get_or (get_or (get_or top_storey snow []) (joint - 1) []) column 0) ≡ entries (entry snow position foundation joint)
+  pub row_top : 1 ≡ position → (table : List (List ℕ)) → table ≡ get_or top_storey snow []
+      → unwrap_or (numbered table joint) none_printed ≡ entries (entry snow position foundation joint)
   unfolding entry top_entry
-  row_top top some = rw (eq-eqb position 1 top, nth_is (get_or top_storey snow []) joint [] some)
+  row_top top table known =
+      rw (← top, known) (lines_are (get_or top_storey snow []) (get_or_every (every (full 4)) refl top_storey refl snow) joint)
 
-  -- In the code a line's entries follow one another, three a strength.
-  in_line : (tables : List (List (List (List ℕ)))) → every (every (every (full 3))) tables ≡ true → (line column at : ℕ) → at < 3
-      → get_or (get_or (map flatten (get_or tables snow [])) line []) (3 * column + at) 0 ≡ get_or (get_or (get_or (get_or tables snow []) line []) column []) at 0
-  unfolding flatten
-  in_line tables threes line column at less =
-      let table = get_or tables snow [] in
-      rw (get_or-map flatten table line [])
-      (get_or_flatten 3 (get_or table line []) (get_or_every (every (full 3)) refl table (get_or_every (every (every (full 3))) refl tables threes snow) line) column at 0 less)
+  pub row_no_top : 1 ≡ position → [] ≡ get_or top_storey snow [] → none_printed ≡ entries (entry snow position foundation joint)
+  row_no_top top none = ap (λ (o : Option (List ℕ)). unwrap_or o none_printed) (numbered_empty joint) ∙ row_top top [] none
 
-  row_in : (tables : List (List (List (List ℕ)))) → every (every (every (full 3))) tables ≡ true → {line : ℕ} → 1 ≤ foundation → foundation ≤ 3 → 1 ≤ line
-      → entries (λ column. get_or (get_or (map flatten (get_or tables snow [])) (line - 1) []) (3 * column + (foundation - 1)) 0)
-      ≡ entries (entry_in tables snow foundation line)
-  unfolding entry_in
-  row_in tables threes {line} known last some =
-      let cell : ℕ → List ℕ = λ column. get_or (get_or (get_or tables snow []) (line - 1) []) column [] in
-      rw (nth_is (get_or tables snow []) line [] some)
-      (entries_same (λ column. get_or (get_or (map flatten (get_or tables snow [])) (line - 1) []) (3 * column + (foundation - 1)) 0)
-      (λ column. nth (cell column) foundation 0)
-      (λ column. in_line tables threes (line - 1) column (foundation - 1) (omega arith) ∙ sym (nth_is (cell column) foundation 0 known)))
+  pub row_other : 2 ≡ position → entries (entry_in other_storey snow foundation joint) ≡ entries (entry snow position foundation joint)
+  unfolding entry
+  row_other other = rw (← other)
 
-  module _ (below : position ≡ 1 → ⊥) (known : 1 ≤ foundation) (last : foundation ≤ 3) where
-    pub row_other : position ≡ 2 → 1 ≤ joint
-        → entries (λ column. get_or (get_or (map flatten (get_or other_storey snow [])) (joint - 1) []) (3 * column + (foundation - 1)) 0)
-        ≡ entries (entry snow position foundation joint)
-    unfolding entry
-    row_other other some = rw (ne_eqb position 1 below, eq-eqb position 2 other) (row_in other_storey refl known last some)
+  pub row_one : 3 ≡ position → entries (entry_in one_storey snow foundation (shared_row joint)) ≡ entries (entry snow position foundation joint)
+  unfolding entry
+  row_one one = rw (← one)
 
-    pub row_one : (position ≡ 2 → ⊥) → {line : ℕ} → line ≡ shared_row joint → 1 ≤ line
-        → entries (λ column. get_or (get_or (map flatten (get_or one_storey snow [])) (line - 1) []) (3 * column + (foundation - 1)) 0)
-        ≡ entries (entry snow position foundation joint)
-    unfolding entry
-    row_one one {line} shared some = rw (ne_eqb position 1 below, ne_eqb position 2 one, ← shared) (row_in one_storey refl known last some)
+-- Of the tables that go by foundations too.
+module _ (tables : List (List (List (List ℕ)))) (snow foundation line : ℕ) where
+  module _ (table : List (List (List ℕ))) (known : table ≡ get_or tables snow []) where
+    pub row_printed : (printed : List (List ℕ)) → Some printed ≡ numbered table line
+        → entries (λ column. nth (get_or printed column []) foundation 0) ≡ entries (entry_in tables snow foundation line)
+    unfolding entry_in
+    row_printed printed found =
+        let same : printed ≡ nth table line [] = ap (λ (o : Option (List (List ℕ))). unwrap_or o []) found ∙ numbered_nth table line [] in
+        rw (← known, same)
+
+    pub row_none : None ≡ numbered table line → none_printed ≡ entries (entry_in tables snow foundation line)
+    unfolding entry_in
+    row_none none =
+        let same : [] ≡ nth table line [] = ap (λ (o : Option (List (List ℕ))). unwrap_or o []) none ∙ numbered_nth table line [] in
+        rw (← known, ← same, nth_none {A = ℕ} [] foundation 0 (λ some most. omega arith))
 
 -- The factor by a row's four entries is that by the row.
 pub row_factor_by : (held : List ℕ) (row : ℕ → ℕ) (strength : ℕ) → held ≡ entries row → row_factor (λ column. get_or held column 0) strength ≡ row_factor row strength

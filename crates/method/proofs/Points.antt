@@ -4,8 +4,9 @@ use Rattle.std.proofs.Common.{◌≡◌, ◌∙◌, refl, sym, ap, ap₂, subst,
 use native.Mathlib.Nat.{min-le_right}
 use lib.Bits.{and_step, and_zero_r, and_le_r}
 use lib.Count.{ones_in, ones, ones_step, ones-le}
+use Rattle.std.proofs.lemmas.Bool.{and_parts}
 use Rattle.method.specs.Deterioration.{item_points, item_points_under_ten, points, counted_marks}
-use Rattle.method.proofs.Tables.{and_true, every}
+use Rattle.method.proofs.Tables.{every}
 use Rattle.method.proofs.Branches.{cond_most}
 
 -- The items of both of two sets, digit by digit.
@@ -70,8 +71,8 @@ unfolding items_of points is_weight
 by_weight [] h set = refl
 by_weight (p ∷ ps) h set =
     let digit = set % 2 in
-    let this = weighed p digit (and_true (is_weight p) (every is_weight ps) h).0 in
-    let rest = by_weight ps (and_true (is_weight p) (every is_weight ps) h).1 (set / 2) in
+    let this = weighed p digit (and_parts (is_weight p) (every is_weight ps) h).0 in
+    let rest = by_weight ps (and_parts (is_weight p) (every is_weight ps) h).1 (set / 2) in
     rw (flagged (eqb p 4) digit, flagged (eqb p 2) digit, flagged (eqb p 1) digit) (omega (arith, this, rest))
 
 -- Mask by weight, then count ones: 8 has the item of four points, 5,911 those of two, 2,272 those of one.
@@ -136,7 +137,7 @@ module _ (fewer marked : ℕ) (within : bit_and fewer marked ≡ fewer) where
           → points item_points fewer ≤ cond t 0 (points item_points marked)
       go false e counts = points_rise item_points
       go true e counts =
-          let both = and_true (ltb age 2) _ e in
+          let both = and_parts (ltb age 2) _ e in
           let young = ltb-true age 2 both.0 in
           let none = eqb-true (points item_points_under_ten marked) 0 both.1 in
           let none_fewer : points item_points_under_ten fewer ≡ 0 = omega (arith, none, points_rise item_points_under_ten) in

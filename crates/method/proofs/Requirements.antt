@@ -1,17 +1,13 @@
 -- The required strength never falls with weight class, zone, ground or snow, is positive, and has a most. Assumes nothing.
-use Rattle.std.proofs.Common.{◌≡◌, refl, sym, Bool, true, false, not, ◌&&◌, ◌||◌, List, [], ℕ, ◌+◌, ◌-◌, ◌<◌, ◌≤◌, zero-le, add-le-add, mul-le-mul, mul-pos, le_refl, le_trans, arith, length, get_or, eqb, leb, ltb, lit≤, leb-true, ltb-true, ltb-false, le-leb, le-ltb}
+use Rattle.std.proofs.Common.{◌≡◌, refl, Bool, true, not, ◌&&◌, ◌||◌, List, [], ℕ, ◌+◌, ◌-◌, ◌*◌, ◌<◌, ◌≤◌, zero-le, add-le-add, mul-le-mul, mul-pos, le_refl, le_trans, arith, get_or, unwrap_or, eqb, leb, ltb, lit≤, leb-true, ltb-true, ltb-false, le-leb, le-ltb}
+use Rattle.std.proofs.lemmas.Bool.Decides.{nat_tests}
 use Rattle.method.specs.declared.rows.House.{House}
 use Rattle.method.specs.declared.rows.Storey.{Storey}
 use Rattle.method.specs.declared.rows.HousePart.{HousePart}
-use Rattle.method.specs.Printed.{nth}
+use Rattle.method.specs.Printed.{nth, numbered}
 use Rattle.method.specs.Required.{constants, snow_additions, top_line, constant, snow_addition, per_area, ground_factor, narrow_factor, required_strength, most_required}
-use Rattle.method.proofs.Tables.{nth_is, nth_none, implied, every, get_or_every, nth_every, small, short, every_below, at_every}
-use Rattle.method.proofs.Branches.{cond_most, cond_least, cond_same}
-
--- Three storeys begin at line 3, and no number of storeys later.
-pub top_line_most : (storeys : ℕ) → top_line storeys ≤ 3
-unfolding top_line
-top_line_most storeys = cond_most (eqb storeys 1) (λ e. lit≤ tt) (λ e. cond_most (eqb storeys 2) (λ d. lit≤ tt) (λ d. lit≤ tt))
+use Rattle.method.proofs.Tables.{numbered_nth, implied, every, get_or_every, nth_every, small, every_below, at_every}
+use Rattle.method.proofs.Branches.{cond_most, cond_least}
 
 -- What the constant is, by the line of the table that holds it.
 module _ (part : HousePart) (weight : ℕ) where
@@ -21,22 +17,16 @@ module _ (part : HousePart) (weight : ℕ) where
   abbrev known : Bool
   known = leb 1 part.storey && leb part.storey part.storeys && leb part.storeys 3
 
-  pub constant_no_storey : known ≡ false → 0 ≡ constant part weight
+  pub constant_none : (1 ≤ part.storey → part.storey ≤ part.storeys → part.storeys ≤ 3 → ⊥) → 0 ≡ constant part weight
   unfolding constant
-  constant_no_storey none = rw none
+  constant_none none = grind (arith, nat_tests)
 
-  pub constant_no_class : (1 ≤ weight → weight ≤ 3 → ⊥) → 0 ≡ constant part weight
+  pub constant_numbered : 1 ≤ part.storey → part.storey ≤ part.storeys → part.storeys ≤ 3
+      → unwrap_or (numbered (get_or constants line []) weight) 0 ≡ constant part weight
   unfolding constant
-  constant_no_class none =
-      let three : length (get_or constants line []) ≤ 3 = leb-true _ 3 (get_or_every (short 3) refl constants refl line) in
-      cond_same known (sym (nth_none (get_or constants line []) weight 0 (λ some most. none some (le_trans most three)))) refl
-
-  pub constant_is : 1 ≤ part.storey → part.storey ≤ part.storeys → part.storeys ≤ 3 → 1 ≤ weight
-      → get_or (get_or constants line []) (weight - 1) 0 ≡ constant part weight
-  unfolding constant
-  constant_is some most few class =
+  constant_numbered some most few =
       rw (le-leb 1 part.storey some, le-leb part.storey part.storeys most, le-leb part.storeys 3 few)
-      (sym (nth_is (get_or constants line []) weight 0 class))
+      (numbered_nth (get_or constants line []) weight 0)
 
 -- The test of table 4.1: every constant of a house is positive.
 positive : ℕ → ℕ → ℕ → Bool
@@ -86,13 +76,9 @@ constant_rises part {lighter} {weight} heavier last =
     (λ e. rw e (line_rises (get_or constants at []) (get_or_every rising none_rising constants all_rising at) heavier last)) (λ e. zero-le)
 
 -- What the addition for snow is; it never falls with deeper snow, and is at most 65.
-pub addition_none : (snow : ℕ) → (1 ≤ snow → snow ≤ 3 → ⊥) → 0 ≡ snow_addition snow
+pub addition_numbered : (snow : ℕ) → unwrap_or (numbered snow_additions snow) 0 ≡ snow_addition snow
 unfolding snow_addition
-addition_none snow none = sym (nth_none snow_additions snow 0 none)
-
-pub addition_is : (snow : ℕ) → 1 ≤ snow → get_or snow_additions (snow - 1) 0 ≡ snow_addition snow
-unfolding snow_addition
-addition_is snow some = sym (nth_is snow_additions snow 0 some)
+addition_numbered snow = numbered_nth snow_additions snow 0
 
 additions_rising : rising snow_additions ≡ true
 unfolding every_below rising nth
@@ -170,3 +156,19 @@ module _ (house : House) (part : HousePart) where
   unfolding required_strength
   required_most area zone narrow =
       le_trans (mul-le-mul (mul-le-mul (mul-le-mul (mul-le-mul (per_area_most house part) area) zone) (ground_most house.ground_class)) narrow) (lit≤ tt)
+
+-- Its factors from the left, in numbers of the code: each product is far below 2 ^ 64.
+module _ (house : House) (part : HousePart) (sum area zone : ℕ) (known : sum ≡ per_area house part) (small : area ≤ 4_294_967_295) (low : zone ≤ 255) where
+  pub with_zone_most : sum * area * zone ≤ 272 * 4_294_967_295 * 255
+  with_zone_most =
+      let most : sum ≤ 272 = rw known (per_area_most house part) in
+      mul-le-mul (mul-le-mul most small) low
+
+  module _ (ground : ℕ) (soft : ground ≡ ground_factor house.ground_class) where
+    pub with_ground_most : sum * area * zone * ground ≤ 272 * 4_294_967_295 * 255 * 15
+    with_ground_most =
+        let most : ground ≤ 15 = rw soft (ground_most house.ground_class) in
+        mul-le-mul with_zone_most most
+
+    pub with_narrow_most : (narrow : ℕ) → narrow ≤ 255 → sum * area * zone * ground * narrow ≤ 272 * 4_294_967_295 * 255 * 15 * 255
+    with_narrow_most narrow most = mul-le-mul with_ground_most most

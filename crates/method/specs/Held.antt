@@ -1,5 +1,7 @@
 -- What a wall counts towards the held strength. Document 01, "Held strength". "Unit: 0.000001 kN, whole numbers."
 use Rattle.std.specs.Prelude.{Bool, cond, ◌&&◌, List, [], ◌∷◌, ℕ, zero, suc, ◌+◌, ◌-◌, ◌*◌, ◌/◌, min, get_or, eqb, ltb}
+use Rattle.method.specs.declared.joints.Position.{Position}
+use Rattle.method.specs.declared.joints.Position.TheVariants.{TopStorey, OtherStorey, OneStorey}
 use Rattle.method.specs.declared.rows.House.{House}
 use Rattle.method.specs.declared.rows.Wall.{Wall}
 use Rattle.method.specs.Printed.{nth}
@@ -9,6 +11,12 @@ use Rattle.method.specs.JointTables.{top_storey, other_storey, one_storey, at2, 
 -- no house has go by the same tests.
 unfoldable pub position : House → ℕ → ℕ
 position house storey = cond (eqb house.storeys 1) 3 (cond (eqb storey house.storeys) 1 2)
+
+-- The number of a table.
+abbrev pub position_number : Position → ℕ
+position_number TopStorey = 1
+position_number OtherStorey = 2
+position_number OneStorey = 3
 
 -- "The middle storey of three uses foundation 1."
 unfoldable pub foundation_used : House → ℕ → ℕ

@@ -6,5 +6,6 @@ pub mod Held
 pub mod Required
 pub mod LayoutFactor
 pub mod Deterioration
+pub mod Verdicts
 pub mod Score
 pub mod Worked

@@ -1,5 +1,7 @@
 // How far deterioration lowers a house's strength, by the parts that are present and those marked, and
 // by whether the house was repaired.
+#![tactic(auto, using(std::proofs::lemmas::Bool::Decides::nat_tests), unfolding(crate::specs::Deterioration::counted_marks, crate::specs::Deterioration::factor_of, crate::specs::Deterioration::deterioration_factor, crate::specs::Deterioration::after_repair))]
+
 ghost use Rattle.std.specs.Prelude.{◌≡◌, ◌≤◌};
 ghost use Rattle.std.specs.Int.Bits.{bit_and};
 ghost use Rattle.std.specs.Int.Count.{ones};
@@ -15,7 +17,7 @@ const TWO_POINTS: u32 = 5911; // items 1, 2, 3, 5, 9, 10, 11, 13
 const ONE_POINT: u32 = 2272; // items 6, 7, 8, 12
 
 // A factor of at most 1, upper over lower.
-#[derive(Clone, Copy)]
+#[derive(Clone, Copy, Debug, PartialEq, Eq)]
 pub struct Fraction {
     pub upper: u8,
     pub lower: u8,
@@ -25,7 +27,7 @@ pub struct Fraction {
 fn count_items(set: u32, mask: u32) -> u32
     ensures { result ≡ ones (bit_and set mask) }
 {
-    u32::count_ones(set & mask)
+    (set & mask).count_ones()
 }
 
 // The points of a set as for houses under ten years, where items of one point aren't surveyed.
@@ -43,38 +45,34 @@ fn points(set: u32) -> u32
 }
 
 // The points of the marks that count, at age 1 (under ten years) or 2 (ten or more).
-#[tactic(auto, using(crate::proofs::Branches::branches), unfolding(crate::specs::Deterioration::counted_marks))]
 fn counted_marks(marked: u32, age: u32) -> u32
     ensures { result ≡ counted_marks marked age }
 {
-    let counted = points(marked);
-    if age < 2 {
-        if points_under_ten(marked) == 0 {
-            return 0;
-        }
+    if age < 2 && points_under_ten(marked) == 0 {
+        0
+    } else {
+        points(marked)
     }
-    counted
 }
 
 // The factor of points present and points marked.
-#[tactic(auto, using(crate::proofs::Branches::branches), unfolding(crate::specs::Deterioration::factor_of))]
 fn factor_of(present: u32, marked: u32) -> Fraction
     requires present { present ≤ 24 }
     requires marked { marked ≤ 24 }
     ensures { result ≡ factor_of present marked }
 {
     if marked == 0 {
-        return Fraction { upper: 1, lower: 1 };
-    }
-    if 10 * present < 7 * present + 10 * marked {
-        return Fraction {
+        Fraction { upper: 1, lower: 1 }
+    } else if 10 * present < 7 * present + 10 * marked {
+        Fraction {
             upper: 7,
             lower: 10,
-        };
-    }
-    Fraction {
-        upper: (present - marked) as u8,
-        lower: present as u8,
+        }
+    } else {
+        Fraction {
+            upper: (present - marked) as u8,
+            lower: present as u8,
+        }
     }
 }
 
@@ -90,13 +88,12 @@ pub fn deterioration_factor(items: Items, age: u32) -> Fraction
 pub fn after_repair(factor: Fraction, repaired: u32) -> Fraction
     ensures { result ≡ after_repair factor repaired }
 {
-    if repaired == 1 {
-        if 9 * (factor.lower as u32) < 10 * (factor.upper as u32) {
-            return Fraction {
-                upper: 9,
-                lower: 10,
-            };
+    if repaired == 1 && 9 * u32::from(factor.lower) < 10 * u32::from(factor.upper) {
+        Fraction {
+            upper: 9,
+            lower: 10,
         }
+    } else {
+        factor
     }
-    factor
 }

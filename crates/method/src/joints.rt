@@ -1,168 +1,129 @@
 // The joint factor (000's Kj): how far the joints at its columns lower a solid wall.
-ghost use Rattle.std.specs.Prelude.{◌≡◌, ◌+◌, ◌*◌, ◌<◌, ◌≤◌, get_or};
-ghost use Rattle.method.specs.Held.{position, foundation_used, shared_row, entry, entries, interpolated, below2, from2to3, from3to5, from5to7, above7, row_factor, joint_factor};
+#![tactic(auto, using(std::proofs::lemmas::Bool::Decides::nat_tests), unfolding(crate::specs::Held::position, crate::specs::Held::foundation_used, crate::specs::Held::shared_row, crate::specs::Held::interpolated, crate::specs::Held::row_factor))]
 
-use crate::joint_tables::{one_storey, other_storey, top_storey};
+ghost use Rattle.std.specs.Prelude.{◌≡◌, ◌<◌, ◌≤◌, [], ◌∷◌, get_or, unwrap_or};
+ghost use Rattle.method.specs.Printed.{nth};
+ghost use Rattle.method.specs.Held.{position, position_number, foundation_used, shared_row, entry, entry_in, entries, interpolated, row_factor, joint_factor};
+
+use crate::joint_tables::{Line, ONE_STOREY, OTHER_STOREY, TOP_STOREY};
+use crate::printed::numbered;
 use crate::rows::{House, Wall};
 
-// The columns of strength.
-const AT_2: usize = 0; // 2.0 kN/m
-
-const AT_3: usize = 1; // 3.0 kN/m
-
-const AT_5: usize = 2; // 5.0 kN/m
-
-const AT_7: usize = 3; // 7.0 kN/m
-
 // Which of the three printed tables a storey takes.
-fn position(house: House, storey: u32) -> u32
-    ensures { result ≡ position house storey }
-{
-    let storeys = house.storeys;
-    if storeys == 1 {
-        return 3;
+#[derive(Clone, Copy, Debug, PartialEq, Eq)]
+enum Position {
+    // The top storey of two or three.
+    TopStorey,
+    // Another storey of two or three.
+    OtherStorey,
+    OneStorey,
+}
+
+impl Position {
+    fn of(house: House, storey: u32) -> Position
+        ensures { position_number result ≡ position house storey }
+    {
+        if house.storeys == 1 {
+            Self::OneStorey
+        } else if storey == house.storeys {
+            Self::TopStorey
+        } else {
+            Self::OtherStorey
+        }
     }
-    if storey == storeys {
-        return 1;
-    }
-    2
 }
 
 // The foundation whose column a storey takes.
 fn foundation_used(house: House, storey: u32) -> u32
     ensures { result ≡ foundation_used house storey }
 {
-    let storeys = house.storeys;
-    if storeys == 3 {
-        if storey == 2 {
-            return 1;
-        }
+    if house.storeys == 3 && storey == 2 {
+        1
+    } else {
+        house.foundation
     }
-    house.foundation
 }
 
 // The line of one storey's table that a joint takes.
 fn shared_row(joint: u32) -> u32
     ensures { result ≡ shared_row joint }
 {
-    if joint == 4 {
-        return 3;
-    }
-    joint
+    if joint == 4 { 3 } else { joint }
 }
 
-// A row's entries: of a joint's line the four of one foundation, 0 for I, 1 for II, 2 for III.
-fn at_foundation(line: [u8; 12], at: usize) -> [u8; 4]
-    requires { at < 3 }
-    ensures { result ≡ entries (λ column. get_or line (3 * column + at) 0) }
+// The entry of a foundation at one strength; 0 where there is no such foundation.
+fn at_foundation(printed: &[u8; 3], foundation: u32) -> u8
+    ensures { result ≡ nth printed.now foundation 0 }
 {
+    numbered(printed, foundation).copied().unwrap_or(0)
+}
+
+// The entries of a foundation in a joint's line.
+fn row_of(line: &Line, foundation: u32) -> [u8; 4]
+    ensures { result ≡ entries (λ column. nth (get_or line.now column []) foundation 0) }
+{
+    let [at_2, at_3, at_5, at_7] = line;
     [
-        line[3 * AT_2 + at],
-        line[3 * AT_3 + at],
-        line[3 * AT_5 + at],
-        line[3 * AT_7 + at],
+        at_foundation(at_2, foundation),
+        at_foundation(at_3, foundation),
+        at_foundation(at_5, foundation),
+        at_foundation(at_7, foundation),
     ]
 }
 
-// The printed entries of a row at 2.0, 3.0, 5.0 and 7.0 kN/m; 0 where there is no such table, or no such
-// row in it.
-fn row(snow: u32, position: u32, foundation: u32, joint: u32) -> [u8; 4]
-    ensures { result ≡ entries (entry snow position foundation joint) }
+// The same by the house's snow and the line's number, where the tables of a position have such a line.
+fn row_in<const LINES: usize>(
+    tables: &[[Line; LINES]; 4],
+    snow: u32,
+    foundation: u32,
+    line: u32,
+) -> Option<[u8; 4]>
+    ensures { unwrap_or result (0 ∷ 0 ∷ 0 ∷ 0 ∷ []) ≡ entries (entry_in tables.now snow foundation line) }
 {
-    if 3 < snow {
-        return [0; 4];
+    let line = numbered(tables.get(snow as usize)?, line)?;
+    Some(row_of(line, foundation))
+}
+
+// The printed entries at 2.0, 3.0, 5.0 and 7.0 kN/m for a joint in a storey, where there is such a table and
+// such a joint in it.
+fn row(house: House, storey: u32, joint: u32) -> Option<[u8; 4]>
+    ensures { unwrap_or result (0 ∷ 0 ∷ 0 ∷ 0 ∷ []) ≡ entries (entry house.snow (position house storey) (foundation_used house storey) joint) }
+{
+    let snow = house.snow;
+    let foundation = foundation_used(house, storey);
+    match Position::of(house, storey) {
+        Position::TopStorey => numbered(TOP_STOREY.get(snow as usize)?, joint).copied(),
+        Position::OtherStorey => row_in(&OTHER_STOREY, snow, foundation, joint),
+        Position::OneStorey => row_in(&ONE_STOREY, snow, foundation, shared_row(joint)),
     }
-    if joint < 1 {
-        return [0; 4];
-    }
-    if 4 < joint {
-        return [0; 4];
-    }
-    if position == 1 {
-        let table = top_storey(snow);
-        let line = table[(joint - 1) as usize];
-        return [line[AT_2], line[AT_3], line[AT_5], line[AT_7]];
-    }
-    if foundation < 1 {
-        return [0; 4];
-    }
-    if 3 < foundation {
-        return [0; 4];
-    }
-    let at = (foundation - 1) as usize;
-    if position == 2 {
-        let table = other_storey(snow);
-        return at_foundation(table[(joint - 1) as usize], at);
-    }
-    let table = one_storey(snow);
-    at_foundation(table[(shared_row(joint) - 1) as usize], at)
 }
 
 // The straight line from one strength and its entry to the next, to the nearest hundredth, half up.
-fn interpolated(from: u32, to: u32, left: u8, right: u8, strength: u32) -> u32
-    requires width { from < to }
-    requires most { to ≤ 70 }
-    requires above { from ≤ strength }
-    requires below { strength ≤ to }
-    ensures { result ≡ interpolated from to left right strength }
+fn interpolated<const FROM: u32, const TO: u32>(left: u8, right: u8, strength: u32) -> u32
+    requires width { FROM < TO }
+    requires most { TO ≤ 70 }
+    requires above { FROM ≤ strength }
+    requires below { strength ≤ TO }
+    ensures { result ≡ interpolated FROM TO left right strength }
 {
-    let width = to - from;
-    let sum = left as u32 * (to - strength) + right as u32 * (strength - from);
+    let width = TO - FROM;
+    let sum = u32::from(left) * (TO - strength) + u32::from(right) * (strength - FROM);
     (2 * sum + width) / (2 * width)
 }
 
-// Below 2.0 kN/m: the entry at 2.0.
-fn below_2(row: [u8; 4]) -> u32
-    ensures { result ≡ below2 (λ column. get_or row column 0) }
-{
-    row[AT_2] as u32
-}
-
-// From 2.0 to 3.0 kN/m: straight from the entry at 2.0 to that at 3.0.
-fn from_2_to_3(row: [u8; 4], strength: u32) -> u32
-    requires above { 20 ≤ strength }
-    requires below { strength ≤ 30 }
-    ensures { result ≡ from2to3 (λ column. get_or row column 0) strength }
-{
-    interpolated(20, 30, row[AT_2], row[AT_3], strength)
-}
-
-// From 3.0 to 5.0 kN/m: straight from the entry at 3.0 to that at 5.0.
-fn from_3_to_5(row: [u8; 4], strength: u32) -> u32
-    requires above { 30 ≤ strength }
-    requires below { strength ≤ 50 }
-    ensures { result ≡ from3to5 (λ column. get_or row column 0) strength }
-{
-    interpolated(30, 50, row[AT_3], row[AT_5], strength)
-}
-
-// From 5.0 to 7.0 kN/m: straight from the entry at 5.0 to that at 7.0.
-fn from_5_to_7(row: [u8; 4], strength: u32) -> u32
-    requires above { 50 ≤ strength }
-    requires below { strength ≤ 70 }
-    ensures { result ≡ from5to7 (λ column. get_or row column 0) strength }
-{
-    interpolated(50, 70, row[AT_5], row[AT_7], strength)
-}
-
-// Above 7.0 kN/m: the entry at 7.0.
-fn above_7(row: [u8; 4]) -> u32
-    ensures { result ≡ above7 (λ column. get_or row column 0) }
-{
-    row[AT_7] as u32
-}
-
-// The factor of a strength, in 0.1 kN/m, by the entries of a row, case by case. At 2.0, 3.0, 5.0 and 7.0
-// the cases on both sides give the printed entry (theorem `cases_meet`).
+// The factor of a strength, in 0.1 kN/m, by the entries of a row, case by case: below 2.0 kN/m the entry at
+// 2.0, then three straight stretches, and above 7.0 the entry at 7.0. At 2.0, 3.0, 5.0 and 7.0 the cases on
+// both sides give the printed entry (theorem `cases_meet`).
 fn row_factor(row: [u8; 4], strength: u32) -> u32
     ensures { result ≡ row_factor (λ column. get_or row column 0) strength }
 {
+    let [at_2, at_3, at_5, at_7] = row;
     match strength {
-        0..=19 => below_2(row),
-        20..=29 => from_2_to_3(row, strength),
-        30..=49 => from_3_to_5(row, strength),
-        50..=69 => from_5_to_7(row, strength),
-        70.. => above_7(row),
+        ..20 => u32::from(at_2),
+        20..30 => interpolated::<20, 30>(at_2, at_3, strength),
+        30..50 => interpolated::<30, 50>(at_3, at_5, strength),
+        50..70 => interpolated::<50, 70>(at_5, at_7, strength),
+        70.. => u32::from(at_7),
     }
 }
 
@@ -170,8 +131,6 @@ fn row_factor(row: [u8; 4], strength: u32) -> u32
 pub fn joint_factor(house: House, storey: u32, wall: Wall) -> u8
     ensures { result ≡ joint_factor house storey wall }
 {
-    let position = position(house, storey);
-    let used = foundation_used(house, storey);
-    let row = row(house.snow, position, used, wall.joint);
+    let row = row(house, storey, wall.joint).unwrap_or([0; 4]);
     row_factor(row, wall.strength) as u8
 }

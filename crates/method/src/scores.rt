@@ -1,14 +1,23 @@
 // A storey and direction's score, with what is left over, and a house's verdict.
+#![tactic(auto, using(std::proofs::lemmas::Bool::Decides::nat_tests), unfolding(crate::specs::Score::quotient, crate::specs::Score::capped_quotient, crate::specs::Score::verdict))]
+
 ghost use Rattle.std.specs.Prelude.{◌≡◌};
 ghost use Rattle.method.specs.Score.{capped_quotient, limited, verdict};
+ghost use Rattle.method.specs.Verdicts.{verdict_number};
 
 use crate::deterioration::Fraction;
-use crate::most_strengths::{MOST_HELD, MOST_REQUIRED, smaller};
 use crate::rows::Strengths;
+use crate::verdicts::Verdict;
+
+// 60,000 kN in the unit of held strength and in that of required strength, which no storey exceeds. With
+// strengths up to these every product of a score fits a u64.
+const MOST_HELD: u64 = 60_000_000_000;
+
+const MOST_REQUIRED: u64 = 60_000_000_000_000;
 
 // A score before it is limited: hundredths × divisor + remainder is what was divided, and of a house the
 // remainder is smaller than the divisor.
-#[derive(Clone, Copy)]
+#[derive(Clone, Copy, Debug, PartialEq, Eq)]
 pub struct Quotient {
     // The whole hundredths.
     pub hundredths: u64,
@@ -23,20 +32,13 @@ pub struct Quotient {
 pub fn score(strengths: Strengths, layout: u8, deterioration: Fraction) -> Quotient
     ensures { result ≡ capped_quotient strengths layout deterioration }
 {
-    let holds = smaller(strengths.held, MOST_HELD);
-    let needs = smaller(strengths.required, MOST_REQUIRED);
-    let dividend = 1000 * holds * layout as u64 * deterioration.upper as u64;
-    let divisor = needs * deterioration.lower as u64;
-    if divisor == 0 {
-        return Quotient {
-            hundredths: 0,
-            remainder: dividend,
-            divisor: 0,
-        };
-    }
+    let holds = strengths.held.min(MOST_HELD);
+    let needs = strengths.required.min(MOST_REQUIRED);
+    let dividend = 1000 * holds * u64::from(layout) * u64::from(deterioration.upper);
+    let divisor = needs * u64::from(deterioration.lower);
     Quotient {
-        hundredths: dividend / divisor,
-        remainder: dividend % divisor,
+        hundredths: dividend.checked_div(divisor).unwrap_or(0),
+        remainder: dividend.checked_rem(divisor).unwrap_or(dividend),
         divisor,
     }
 }
@@ -45,22 +47,17 @@ pub fn score(strengths: Strengths, layout: u8, deterioration: Fraction) -> Quoti
 pub fn limited(found: Quotient) -> u32
     ensures { result ≡ limited found }
 {
-    smaller(found.hundredths, 999) as u32
+    found.hundredths.min(999) as u32
 }
 
-// The verdict of a house's least score, 1 to 4.
-#[tactic(auto, using(crate::proofs::Branches::branches), unfolding(crate::specs::Score::verdict))]
-pub fn verdict(least: u32) -> u32
-    ensures { result ≡ verdict least }
+// The verdict of a house's least score.
+pub fn verdict(least: u32) -> Verdict
+    ensures { verdict_number result ≡ verdict least }
 {
-    if 150 <= least {
-        return 1;
+    match least {
+        150.. => Verdict::DoesNotCollapse,
+        100.. => Verdict::ApparentlyDoesNotCollapse,
+        70.. => Verdict::MayCollapse,
+        _ => Verdict::LikelyToCollapse,
     }
-    if 100 <= least {
-        return 2;
-    }
-    if 70 <= least {
-        return 3;
-    }
-    4
 }

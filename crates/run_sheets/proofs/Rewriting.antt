@@ -1,22 +1,20 @@
 -- What reading and then writing a sheet comes to, by the two ways out of reading. Assumes nothing.
-use Rattle.std.proofs.Common.{◌≡◌, refl, sym, ap, subst, ◌∙◌, Bool, true, false, cond, List, ℕ, ◌*◌, ◌-◌, ◌≤◌, arith, T, ltb, length, take, ltb-true, ltb-false}
-use native.Mathlib.Nat.{sub-zero}
+use Rattle.std.proofs.Common.{◌≡◌, refl, sym, ap, subst, ◌∙◌, Bool, true, false, cond, List, ℕ, ◌*◌, ◌≤◌, arith, T, ltb, length, take, ltb-true, ltb-false, Result, Ok, Err}
 use Rattle.answer.specs.Told.{Told, told, counted, refusal, accepts, lent_space_short}
-use Rattle.answer.specs.declared.Answer.{Answer}
-use Rattle.answer.specs.declared.Answer.TheVariants.{Count, Refused}
+use Rattle.answer.specs.declared.refusal.Refusal.{Refusal}
 use Rattle.answer.proofs.Refusals.{refused_first}
 use Rattle.sheet.specs.Sheet.{reading, after_reading, writing, after_writing, rows_read}
 use Rattle.sheet.proofs.Answers.{accepted_count, read_accepted}
 use Rattle.sheet.proofs.RoundTrip.{read_then_write, read_then_short}
 use Rattle.run_sheets.specs.Again.{again, after_again}
 
-module _ (sheet table : List ℕ) {answer : Answer} (read : told answer ≡ reading sheet (length table)) where
-  pub again_refused : (bytes : List ℕ) {number row column : ℕ} → answer ≡ Refused number row column
+module _ (sheet table : List ℕ) {answer : Result ℕ Refusal} (read : told answer ≡ reading sheet (length table)) where
+  pub again_refused : (bytes : List ℕ) {refusal : Refusal} → answer ≡ Err refusal
       → (told answer ≡ again sheet (length table) (length bytes)) × (bytes ≡ after_again sheet (length table) bytes)
   unfolding again after_again
   again_refused bytes e = refused_first (reading sheet (length table)) _ _ bytes read e
 
-  module _ {rows : ℕ} (count : answer ≡ Count rows) where
+  module _ {rows : ℕ} (count : answer ≡ Ok rows) where
     accepted : (reading sheet (length table)).number ≡ 0
     accepted = ap (λ (a : Told). a.number) (read_accepted sheet table read count)
 
@@ -27,12 +25,12 @@ module _ (sheet table : List ℕ) {answer : Answer} (read : told answer ≡ read
     pub again_rows : 8 * rows ≤ length table
     again_rows = rw so_many at (accepted_count sheet table accepted).1
 
-    rows_read_lem : take (8 * rows - 0) (after_reading sheet table) ≡ rows_read sheet table
-    rows_read_lem = rw (sub-zero, so_many)
+    rows_read_lem : take (8 * rows) (after_reading sheet table) ≡ rows_read sheet table
+    rows_read_lem = rw so_many refl
 
     pub again_written : (bytes : List ℕ) {last : Told} {left : List ℕ}
-        → last ≡ writing (take (8 * rows - 0) (after_reading sheet table)) (length bytes)
-        → left ≡ after_writing (take (8 * rows - 0) (after_reading sheet table)) bytes
+        → last ≡ writing (take (8 * rows) (after_reading sheet table)) (length bytes)
+        → left ≡ after_writing (take (8 * rows) (after_reading sheet table)) bytes
         → (last ≡ again sheet (length table) (length bytes)) × (left ≡ after_again sheet (length table) bytes)
     unfolding again after_again
     again_written bytes {last} {left} e f = go (ltb (length bytes) (length sheet)) refl
@@ -56,8 +54,8 @@ module _ (sheet table : List ℕ) {answer : Answer} (read : told answer ≡ read
             (rw (was_accepted, h) (e' ∙ same.0), rw (was_accepted, h) (f' ∙ same.1))
 
 -- What is counted is within the bytes.
-pub again_counted : (sheet bytes : List ℕ) (numbers : ℕ) {answer : Answer} {n : ℕ}
-    → told answer ≡ again sheet numbers (length bytes) → answer ≡ Count n → n ≤ length bytes
+pub again_counted : (sheet bytes : List ℕ) (numbers : ℕ) {answer : Result ℕ Refusal} {n : ℕ}
+    → told answer ≡ again sheet numbers (length bytes) → answer ≡ Ok n → n ≤ length bytes
 unfolding again
 again_counted sheet bytes numbers {answer} {n} e count =
     go (accepts (reading sheet numbers)) refl (ltb (length bytes) (length sheet)) refl (sym (ap told count) ∙ e)

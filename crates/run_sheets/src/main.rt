@@ -4,8 +4,8 @@
 // no sheet gives. `again` is proved to give the same sheet or the refusal; what comes from the disk and
 // goes to the terminal is tested, against the file stdout.
 //
-// Uses `answer`, `sheet` and std. Of a sheet that can't be read it tells on standard error, and runs the
-// next; where it can't print, it ends with status 1.
+// Uses `answer`, `files`, `sheet` and std. Of a sheet that can't be read it tells on standard error, and runs
+// the next; where it can't print, it ends with status 1.
 #![tactic(auto)]
 
 ghost use Rattle.std.specs.Prelude.{◌≡◌, length};
@@ -13,35 +13,22 @@ ghost use Rattle.answer.specs.Told.{told};
 ghost use Rattle.run_sheets.specs.Again.{again, after_again};
 
 use answer::{Answer, MOST_NUMBERS};
-use std::io::Read;
-use std::rt::Files;
-use std::{env, fs, io};
+use files::{print_answer, print_row, run_file};
+use std::{env, io};
 
 // The numbers of a sheet that is a line longer than the longest, and its bytes.
 const TABLE: usize = MOST_NUMBERS + sheet::ROW;
 
 const BYTES: usize = (answer::MOST_ROWS + 1) * sheet::LINE;
 
-// A longer file is cut there, at a length that is still refused.
-const MOST_INPUT: u64 = 65_536;
-
 // Reads a sheet into the table and writes the rows that were read into the bytes.
 fn again(sheet: &[u8], table: &mut [u32], bytes: &mut [u8]) -> Answer
     ensures answer { told result ≡ again sheet.now (length table.old) (length bytes.old) }
     ensures bytes { bytes.new ≡ after_again sheet.now (length table.old) bytes.old }
 {
-    let read = sheet::read(sheet, table);
-    match read {
-        Answer::Refused { .. } => read,
-        Answer::Count(rows) => {
-            let end = sheet::ROW * (rows as usize);
-            sheet::write(&table[0..end], bytes)
-        }
-    }
-}
-
-fn print_row(rt: &impl Print, row: [u32; 8]) -> io::Result<()> {
-    rt.write_all(&sheet::print_line(row))
+    let rows = sheet::read(sheet, table)?;
+    let end = sheet::ROW * rows as usize;
+    sheet::write(&table[..end], bytes)
 }
 
 // Prints what a sheet comes to: itself, or the refusal's line.
@@ -52,24 +39,8 @@ fn print_again(
     bytes: &mut [u8],
 ) -> io::Result<()> {
     match again(sheet, table, bytes) {
-        Answer::Refused {
-            number,
-            row,
-            column,
-        } => print_row(rt, [0, number, row, column, 0, 0, 0, 0]),
-        Answer::Count(count) => rt.write_all(&bytes[0..count as usize]),
-    }
-}
-
-// Prints an answer: number, row, column, count.
-fn print_answer(rt: &impl Print, answer: Answer) -> io::Result<()> {
-    match answer {
-        Answer::Refused {
-            number,
-            row,
-            column,
-        } => print_row(rt, [number, row, column, 0, 0, 0, 0, 0]),
-        Answer::Count(count) => print_row(rt, [0, 0, 0, count, 0, 0, 0, 0]),
+        Ok(count) => rt.write_all(&bytes[..count as usize]),
+        Err(refusal) => print_row(rt, refusal.into()),
     }
 }
 
@@ -100,29 +71,6 @@ fn run_sheet(rt: &impl Print, sheet: &[u8], lendings: bool) -> io::Result<()> {
     let mut table = [0u32; MOST_NUMBERS];
     let mut bytes = [0u8; BYTES];
     print_again(rt, sheet, &mut table, &mut bytes)
-}
-
-fn read_file(rt: &(impl Files + AllocGlobal), path: &str) -> io::Result<Vec<u8>> {
-    let mut bytes = Vec::new(rt.alloc());
-    fs::open(rt, path)?
-        .take(MOST_INPUT)
-        .read_to_end(&mut bytes)?;
-    Ok(bytes)
-}
-
-// Runs one file.
-fn run(
-    rt: &(impl Files + AllocGlobal + Print + Eprint),
-    path: &str,
-    lendings: bool,
-) -> io::Result<()> {
-    match read_file(rt, path) {
-        Ok(sheet) => {
-            println!(rt; "{path}")?;
-            run_sheet(rt, &sheet, lendings)
-        }
-        Err(error) => eprintln!(rt; "{path}: {error}"),
-    }
 }
 
 // Writes the front of a table into so many bytes, and prints the answer.
@@ -178,7 +126,10 @@ fn main(rt: HostRuntime) -> io::Result<()> {
         match word.as_str() {
             "--lendings" => lendings = true,
             "--tables" => run_tables(&rt)?,
-            path => run(&rt, path, lendings)?,
+            path => run_file(&rt, path, |sheet| {
+                println!(rt; "{path}")?;
+                run_sheet(&rt, sheet, lendings)
+            })?,
         }
     }
     Ok(())

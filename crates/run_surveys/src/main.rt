@@ -4,14 +4,14 @@
 // to 4, of which there are none. After one of the words below, tables are run in another way. What is
 // printed is tested, against the file stdout.
 //
-// Uses `answer`, `sheet`, `survey` and std. Of a sheet that can't be read it tells on standard error, and
-// runs the next; where it can't print, it ends with status 1.
+// Uses `answer`, `files`, `sheet`, `survey` and std. Of a sheet that can't be read it tells on standard error,
+// and runs the next; where it can't print, it ends with status 1.
 #![tactic(auto)]
 
-use answer::{Answer, MOST_NUMBERS, MOST_ROWS, ROW};
-use std::io::Read;
-use std::rt::Files;
-use std::{env, fs, io};
+use answer::{MOST_NUMBERS, MOST_ROWS, ROW};
+use files::{print_row, run_file};
+use std::{env, io};
+use survey::{storey_run, storey_walls};
 
 // How a table is run.
 #[derive(Clone, Copy)]
@@ -31,46 +31,44 @@ enum Way {
     Longer,
 }
 
-const LARGEST: u32 = 4_294_967_295;
+// It is a value and no closure, since a word holds for all files after it.
+impl Way {
+    fn named(word: &str) -> Option<Way> {
+        match word {
+            "--walls" => Some(Way::Walls),
+            "--runs" => Some(Way::Runs),
+            "--lengths" => Some(Way::Lengths),
+            "--large" => Some(Way::Large),
+            "--longer" => Some(Way::Longer),
+            _ => None,
+        }
+    }
+}
 
-// The numbers of a table that is a row longer than the longest.
-const TABLE: usize = MOST_NUMBERS + ROW;
+const LARGEST: u32 = 4_294_967_295;
 
 // The bytes of as many rows as the longest table has.
 const BYTES: usize = MOST_ROWS * sheet::LINE;
 
-// A longer file is cut there, at a length that is still refused.
-const MOST_INPUT: u64 = 65_536;
-
-fn print_row(rt: &impl Print, row: [u32; 8]) -> io::Result<()> {
-    rt.write_all(&sheet::print_line(row))
-}
+// The numbers of a table that is a row longer than the longest.
+const TABLE: usize = MOST_NUMBERS + ROW;
 
 // How many rows a part has; the last six digits of that.
 fn rows_of(part: &[u32]) -> u32 {
     (part.len() / ROW % 1_000_000) as u32
 }
 
-fn shown(table: &[u32], storey: u32) -> u32 {
-    rows_of(survey::storey_walls(table, storey))
-}
-
 // Judges a table, and counts the rows that are shown of each storey.
 fn run_judged(rt: &impl Print, table: &[u32]) -> io::Result<()> {
-    let one = shown(table, 1);
-    let two = shown(table, 2);
-    let three = shown(table, 3);
-    let four = shown(table, 4);
+    let [one, two, three, four] = [1, 2, 3, 4].map(|storey| rows_of(storey_walls(table, storey)));
     match survey::judge(table) {
-        Answer::Refused {
-            number,
-            row,
-            column,
-        } => print_row(rt, [0, number, row, column, one, two, three, four]),
-        Answer::Count(count) => {
-            let zero = shown(table, 0);
-            let largest = shown(table, LARGEST);
+        Ok(count) => {
+            let [zero, largest] = [0, LARGEST].map(|storey| rows_of(storey_walls(table, storey)));
             print_row(rt, [count, zero, one, two, three, four, largest, 0])
+        }
+        Err(refusal) => {
+            let [_, number, row, column, ..] = <[u32; ROW]>::from(refusal);
+            print_row(rt, [0, number, row, column, one, two, three, four])
         }
     }
 }
@@ -87,40 +85,24 @@ fn print_part(rt: &impl Print, storey: u32, part: &[u32]) -> io::Result<()> {
     rt.write_all(&bytes[..rows * sheet::LINE])
 }
 
-// Prints the rows of storeys 0 to 4 that are shown,
-fn run_walls(rt: &impl Print, table: &[u32]) -> io::Result<()> {
+// Prints the rows of a part for each of storeys 0 to 4.
+fn run_parts<F: Fn(&[u32], u32) -> &[u32]>(
+    rt: &impl Print,
+    table: &[u32],
+    part: F,
+) -> io::Result<()>
+    requires { F.IsAlwaysCallable part }
+{
     for storey in 0..5 {
-        print_part(rt, storey, survey::storey_walls(table, storey))?;
+        print_part(rt, storey, part(table, storey))?;
     }
     Ok(())
 }
 
-// and those of their first runs.
-fn run_runs(rt: &impl Print, table: &[u32]) -> io::Result<()> {
-    for storey in 0..5 {
-        print_part(rt, storey, survey::storey_run(table, storey))?;
-    }
-    Ok(())
-}
-
-fn count_run(table: &[u32], storey: u32) -> u32 {
-    rows_of(survey::storey_run(table, storey))
-}
-
-fn run_front(rt: &impl Print, table: &[u32]) -> io::Result<()> {
-    run_judged(rt, table)?;
-    let zero = count_run(table, 0);
-    let one = count_run(table, 1);
-    let two = count_run(table, 2);
-    let three = count_run(table, 3);
-    let four = count_run(table, 4);
-    let largest = count_run(table, LARGEST);
-    print_row(rt, [zero, one, two, three, four, largest, 0, 0])
-}
-
+// Runs every front of a table, and counts the rows of the first runs.
 fn run_lengths(rt: &impl Print, table: &[u32]) -> io::Result<()> {
     for front in 0..=table.len() {
-        run_front(rt, &table[0..front])?;
+        run_front(rt, &table[..front])?;
     }
     Ok(())
 }
@@ -135,18 +117,35 @@ fn run_large(rt: &impl Print, table: &mut [u32]) -> io::Result<()> {
     Ok(())
 }
 
+fn run_front(rt: &impl Print, table: &[u32]) -> io::Result<()> {
+    run_judged(rt, table)?;
+    let [zero, one, two, three, four, largest] = [0, 1, 2, 3, 4, LARGEST].map(|storey| rows_of(
+        storey_run(table, storey),
+    ));
+    print_row(rt, [zero, one, two, three, four, largest, 0, 0])
+}
+
 // Runs the front of a table in one of the ways; what stands after it is zeros.
 fn run_table(rt: &impl Print, table: &mut [u32], length: usize, way: Way) -> io::Result<()> {
     if MOST_NUMBERS < length || table.len() < length + ROW {
         return Ok(());
     }
+    let longer = length + ROW;
     match way {
-        Way::Judged => run_judged(rt, &table[0..length]),
-        Way::Walls => run_walls(rt, &table[0..length]),
-        Way::Runs => run_runs(rt, &table[0..length]),
-        Way::Lengths => run_lengths(rt, &table[0..length]),
-        Way::Large => run_large(rt, &mut table[0..length]),
-        Way::Longer => run_judged(rt, &table[0..length + ROW]),
+        Way::Judged => run_judged(rt, &table[..length]),
+        Way::Walls => run_parts(
+            rt,
+            &table[..length],
+            |table, storey| storey_walls(table, storey),
+        ),
+        Way::Runs => run_parts(
+            rt,
+            &table[..length],
+            |table, storey| storey_run(table, storey),
+        ),
+        Way::Lengths => run_lengths(rt, &table[..length]),
+        Way::Large => run_large(rt, &mut table[..length]),
+        Way::Longer => run_judged(rt, &table[..longer]),
     }
 }
 
@@ -154,42 +153,21 @@ fn run_table(rt: &impl Print, table: &mut [u32], length: usize, way: Way) -> io:
 fn run_sheet(rt: &impl Print, sheet: &[u8], way: Way) -> io::Result<()> {
     let mut table = [0u32; TABLE];
     match sheet::read(sheet, &mut table) {
-        Answer::Count(rows) => run_table(rt, &mut table, rows as usize * ROW, way),
-        Answer::Refused {
-            number,
-            row,
-            column,
-        } => print_row(rt, [0, number, row, column, 0, 0, 0, 0]),
-    }
-}
-
-fn read_file(rt: &(impl Files + AllocGlobal), path: &str) -> io::Result<Vec<u8>> {
-    let mut bytes = Vec::new(rt.alloc());
-    fs::open(rt, path)?
-        .take(MOST_INPUT)
-        .read_to_end(&mut bytes)?;
-    Ok(bytes)
-}
-
-// Runs one file.
-fn run(rt: &(impl Files + AllocGlobal + Print + Eprint), path: &str, way: Way) -> io::Result<()> {
-    println!(rt; "{path}")?;
-    match read_file(rt, path) {
-        Ok(sheet) => run_sheet(rt, &sheet, way),
-        Err(error) => eprintln!(rt; "{path}: {error}"),
+        Ok(rows) => run_table(rt, &mut table, rows as usize * ROW, way),
+        Err(refusal) => print_row(rt, refusal.into()),
     }
 }
 
 fn main(rt: HostRuntime) -> io::Result<()> {
     let mut way = Way::Judged;
     for word in env::args(&rt)?.skip(1) {
-        match word.as_str() {
-            "--walls" => way = Way::Walls,
-            "--runs" => way = Way::Runs,
-            "--lengths" => way = Way::Lengths,
-            "--large" => way = Way::Large,
-            "--longer" => way = Way::Longer,
-            path => run(&rt, path, way)?,
+        let word = word.as_str();
+        match Way::named(word) {
+            Some(named) => way = named,
+            None => {
+                println!(rt; "{word}")?;
+                run_file(&rt, word, |sheet| run_sheet(&rt, sheet, way))?;
+            }
         }
     }
     Ok(())

@@ -1,8 +1,7 @@
 -- What reading and writing answer, and what they leave, case by case in the order of their tests. Assumes nothing.
-use Rattle.std.proofs.Common.{◌≡◌, refl, sym, ap, ◌∙◌, Bool, true, false, cond, List, ℕ, ◌*◌, ◌<◌, ◌≤◌, eqb, ltb, lit<, length, arith, eq-eqb, ne_eqb, lt-ltb, le-ltb, ltb-false}
+use Rattle.std.proofs.Common.{◌≡◌, refl, sym, ap, ◌∙◌, Bool, true, false, cond, List, ℕ, ◌*◌, ◌<◌, ◌≤◌, eqb, ltb, lit<, length, arith, eq-eqb, ne_eqb, lt-ltb, le-ltb, ltb-true, ltb-false, Result, Ok, Some, None, rules}
 use borrow.Author.Tests.{eqb-false}
-use Rattle.answer.specs.declared.Answer.{Answer}
-use Rattle.answer.specs.declared.Answer.TheVariants.{Count}
+use Rattle.answer.specs.declared.refusal.Refusal.{Refusal}
 use Rattle.answer.specs.Told.{Told, told, counted, refusal, accepts, sheet_length, misprint, out_of_range, lent_space_short}
 use Rattle.answer.specs.First.{first}
 use Rattle.answer.specs.Length.{most_rows, rows_in, Whole}
@@ -10,7 +9,8 @@ use Rattle.answer.specs.Lists.{over}
 use Rattle.answer.proofs.Refusals.{passed, kept, either_by_number}
 use Rattle.answer.proofs.Places.{first_none, before_first}
 use Rattle.answer.proofs.Lengths.{rows_whole, rows_counted, rows_most}
-use Rattle.sheet.specs.Sheet.{refusal_at, misprinted, numbers_of, reading, after_reading, too_large, lines_of, writing, after_writing}
+use Rattle.sheet.specs.Sheet.{refusal_at, misprinted, lines_read, numbers_of, reading, after_reading, too_large, large_place, lines_of, writing, after_writing}
+use Rattle.sheet.proofs.Sheets.{lines_counted}
 
 -- A sheet of so many lines that can be read: whole lines, not too many, nothing misprinted.
 pub record Readable (sheet : List ℕ) (lines : ℕ) : Type 0 where
@@ -27,7 +27,7 @@ module _ (sheet table : List ℕ) {lines : ℕ} (so_many : lines ≡ rows_in 65 
   Read answer left = (answer ≡ reading sheet (length table)) × (left ≡ after_reading sheet table)
 
   -- A refusal leaves the table as it was.
-  reading_refused : {answer : Told} → answer ≡ reading sheet (length table) → accepts answer ≡ false → Read answer table
+  pub reading_refused : {answer : Told} → answer ≡ reading sheet (length table) → accepts answer ≡ false → Read answer table
   unfolding after_reading
   reading_refused e f = (e, kept (reading sheet (length table)) _ table e f)
 
@@ -40,21 +40,14 @@ module _ (sheet table : List ℕ) {lines : ℕ} (so_many : lines ≡ rows_in 65 
     unfolding reading
     reading_short short = reading_refused (rw (← so_many, ne_eqb lines 0 some, lt-ltb (length table) (8 * lines) short)) refl
 
-    module _ (room : 8 * lines ≤ length table) {at : ℕ} (found : at ≡ first (misprinted sheet) (9 * lines)) where
-      pub reading_misprint : at < 9 * lines → Read (refusal_at misprint 9 at) table
-      unfolding reading refusal_at
-      reading_misprint h =
-          reading_refused
-          (rw (← so_many, ← found, ne_eqb lines 0 some, le-ltb (length table) (8 * lines) room, lt-ltb at (9 * lines) h)) refl
+    -- Where there is room, what is told of the lines is the answer.
+    pub reading_lines : {answer : Told} → 8 * lines ≤ length table → answer ≡ lines_read sheet lines → answer ≡ reading sheet (length table)
+    unfolding reading
+    reading_lines room e = rw (← so_many, ne_eqb lines 0 some, le-ltb (length table) (8 * lines) room, e)
 
-      counted_reading : 9 * lines ≤ at → counted lines ≡ reading sheet (length table)
-      unfolding reading
-      counted_reading h =
-          rw (← so_many, ← found, ne_eqb lines 0 some, le-ltb (length table) (8 * lines) room, le-ltb at (9 * lines) h)
-
-      pub reading_accepted : 9 * lines ≤ at → Read (counted lines) (over table (numbers_of (8 * lines) sheet))
-      unfolding after_reading
-      reading_accepted h = (counted_reading h, rw (← counted_reading h, ← so_many))
+  pub reading_counted : {n : ℕ} → counted n ≡ reading sheet (length table) → Read (counted n) (over table (numbers_of (8 * lines) sheet))
+  unfolding after_reading
+  reading_counted e = (e, rw (← e, ← so_many))
 
 module _ (table sheet : List ℕ) {rows : ℕ} (so_many : rows ≡ rows_in 8 (length table)) where
   abbrev Written : Told → List ℕ → Type 0
@@ -89,6 +82,29 @@ module _ (table sheet : List ℕ) {rows : ℕ} (so_many : rows ≡ rows_in 8 (le
       pub writing_accepted : 65 * rows ≤ length sheet → Written (counted (65 * rows)) (over sheet (lines_of rows table))
       unfolding after_writing
       writing_accepted h = (counted_writing h, rw (← counted_writing h, ← so_many))
+
+-- What the code finds of the numbers that are too large.
+module _ (table : List ℕ) where
+  pub large_found : {at : ℕ} → Some at ≡ large_place table → (at ≡ first (too_large table) (length table)) × (at < length table)
+  unfolding large_place
+  large_found {at} = go (ltb (first (too_large table) (length table)) (length table)) refl
+    where
+      go : (b : Bool) → ltb (first (too_large table) (length table)) (length table) ≡ b
+          → Some at ≡ cond b (Some (first (too_large table) (length table))) None
+          → (at ≡ first (too_large table) (length table)) × (at < length table)
+      go true f e =
+          let same : at ≡ first (too_large table) (length table) = search rules in
+          (same, rw same (ltb-true (first (too_large table) (length table)) (length table) f))
+      go false f e = absurd (search rules)
+
+  pub none_large_found : None ≡ large_place table → length table ≤ first (too_large table) (length table)
+  unfolding large_place
+  none_large_found = go (ltb (first (too_large table) (length table)) (length table)) refl
+    where
+      go : (b : Bool) → ltb (first (too_large table) (length table)) (length table) ≡ b
+          → None ≡ cond b (Some (first (too_large table) (length table))) None → length table ≤ first (too_large table) (length table)
+      go true f e = absurd (search rules)
+      go false f e = ltb-false (first (too_large table) (length table)) (length table) f
 
 -- An answer is a count just where its number is 0.
 pub reading_by_number : (sheet : List ℕ) (lent : ℕ) → (reading sheet lent).is_count ≡ eqb (reading sheet lent).number 0
@@ -129,8 +145,8 @@ module _ (sheet table : List ℕ) (lines : ℕ) (readable : Readable sheet lines
       → (counted lines ≡ reading sheet (length table)) × (over table (numbers_of (8 * lines) sheet) ≡ after_reading sheet table)
   readable_accepted room =
       let so_many : lines ≡ rows_in 65 (length sheet) = rows_counted 65 readable.lengths.whole (lit< tt) readable.lengths.most in
-      let found : 9 * lines ≡ first (misprinted sheet) (9 * lines) = sym (first_none (misprinted sheet) (9 * lines) readable.right) in
-      reading_accepted sheet table so_many (λ z. omega (arith, readable.lengths.some)) room found (omega arith)
+      let read = lines_counted sheet lines readable.right in
+      reading_counted sheet table so_many (reading_lines sheet table so_many (λ z. omega (arith, readable.lengths.some)) room read)
 
 -- A table with room for the longest sheet is never too short.
 pub never_short : (sheet : List ℕ) (lent : ℕ) → 8 * most_rows ≤ lent → (reading sheet lent).number ≡ lent_space_short → ⊥
@@ -158,7 +174,7 @@ accepted_count sheet table z =
     rw (← answer) readable
 
 -- For whoever takes apart what reading answered.
-pub read_accepted : (sheet table : List ℕ) {answer : Answer} {rows : ℕ} → told answer ≡ reading sheet (length table) → answer ≡ Count rows
+pub read_accepted : (sheet table : List ℕ) {answer : Result ℕ Refusal} {rows : ℕ} → told answer ≡ reading sheet (length table) → answer ≡ Ok rows
     → reading sheet (length table) ≡ counted rows
 read_accepted sheet table read e = sym read ∙ ap told e
 

@@ -8,10 +8,9 @@ use Rattle.answer.specs.First.{first}
 use Rattle.answer.specs.Length.{rows_in}
 use Rattle.answer.specs.Text.{bytes}
 use Rattle.answer.specs.Lists.{joined, part, over}
-use Rattle.sheet.specs.Field.{digit_after, after, field, is_number, value, digit_or_space, printed}
+use Rattle.sheet.specs.Field.{Number, Misprint, digit_after, after, field, is_number, value, digit_or_space, printed}
 use Rattle.sheet.specs.Line.{line}
 use Rattle.sheet.specs.Sheet.{field_at, misprinted, numbers_of, reading, after_reading, lines_of, too_large, writing, after_writing, rows_read, bytes_written}
-use Rattle.sheet.specs.declared.field.Field.TheVariants.{Number, Misprint}
 use Rattle.sheet.proofs.RoundTrip.{read_then_write, read_then_short, write_then_read}
 
 -- The largest number of a field. The one after it has nine digits, and its last eight are no field.

@@ -1,38 +1,62 @@
 -- The laws of a field's characters: each step of reading them, how large the number can be, and that reading and printing undo
 -- each other. Assumes nothing.
-use Rattle.std.proofs.Common.{◌≡◌, refl, sym, ap, ap₂, subst, ◌∙◌, Bool, true, false, cond, ◌&&◌, List, [], ◌∷◌, ◌++◌, ℕ, zero, suc, ◌+◌, ◌-◌, ◌*◌, ◌/◌, ◌%◌, ◌^◌, ◌<◌, ◌≤◌, div-lt_iff_lt-mul, add-zero, add-suc, suc-add, add-one, arith, eqb, leb, ltb, lit<, length, get_or, take, length-take, take-suc, take_all, eq-eqb, ne_eqb, leb-true, eqb-true, ltb-true, ltb-false, le-leb}
+use Rattle.std.proofs.Common.{◌≡◌, refl, sym, ap, ap₂, subst, ◌∙◌, Bool, true, false, cond, ◌&&◌, List, [], ◌∷◌, ◌++◌, ℕ, zero, suc, ◌+◌, ◌-◌, ◌*◌, ◌/◌, ◌%◌, ◌^◌, ◌<◌, ◌≤◌, div-lt_iff_lt-mul, add-zero, add-suc, suc-add, add-one, arith, eqb, leb, ltb, lit<, length, get_or, take, drop, rules, length-take, take-suc, take_all, eq-eqb, ne_eqb, leb-true, eqb-true, ltb-true, ltb-false, le-leb, Option, Some, None}
+use Rattle.std.proofs.lemmas.List.{take-append-drop}
 use mathlib.Core.List.{foldl, foldl-append}
 use native.Mathlib.Nat.{div-div-eq-div-mul, div-eq_of_lt, pow-le-pow_right}
 use borrow.Author.Tests.{eqb-false}
-use Rattle.sheet.specs.Field.{after, digit_after, field, value, digit_or_space, printed}
-use Rattle.sheet.specs.declared.field.Field.{Field}
-use Rattle.sheet.specs.declared.field.Field.TheVariants.{Blank, Number, Misprint}
+use Rattle.sheet.specs.Field.{Field, Blank, Number, Misprint, is_digit, digit, after, digit_after, field, is_number, value, number_made, number_in, digit_or_space, printed}
+
+-- What the code has for spaces alone and for a number.
+abbrev pub made : Option ℕ → Field
+made None = Blank
+made (Some n) = Number n
 
 -- One character more, case by case.
-module _ {made : Field} (character : ℕ) where
-  pub after_space : made ≡ Blank → character ≡ 32 → Blank ≡ after made character
+module _ (character : ℕ) where
+  after_space : character ≡ 32 → after Blank character ≡ Blank
   unfolding after
-  after_space e h = rw (e, eq-eqb character 32 h)
+  after_space h = rw (eq-eqb character 32 h)
 
-  pub after_blank : made ≡ Blank → (character ≡ 32 → ⊥) → digit_after 0 character ≡ after made character
+  after_blank : (character ≡ 32 → ⊥) → after Blank character ≡ digit_after 0 character
   unfolding after
-  after_blank e h = rw (e, ne_eqb character 32 h)
+  after_blank h = rw (ne_eqb character 32 h)
 
-  pub after_zero : {n : ℕ} → made ≡ Number n → n ≡ 0 → Misprint ≡ after made character
+  after_zero : after (Number 0) character ≡ Misprint
   unfolding after
-  after_zero {n} e h = rw (e, eq-eqb n 0 h)
+  after_zero = refl
 
-  pub after_number : {n : ℕ} → made ≡ Number n → (n ≡ 0 → ⊥) → digit_after n character ≡ after made character
+  after_number : {n : ℕ} → (n ≡ 0 → ⊥) → after (Number n) character ≡ digit_after n character
   unfolding after
-  after_number {n} e h = rw (e, ne_eqb n 0 h)
+  after_number {n} h = rw (ne_eqb n 0 h)
 
-  pub after_misprint : made ≡ Misprint → Misprint ≡ after made character
-  unfolding after
-  after_misprint e = rw e
+  -- With the next digit, or what is none, as the code has it.
+  no_digit_after : (n : ℕ) → None ≡ digit character → digit_after n character ≡ Misprint
+  unfolding digit digit_after
+  no_digit_after n = go (is_digit character)
+    where
+      go : (b : Bool) → None ≡ cond b (Some (character - 48)) None → cond b (Number (10 * n + (character - 48))) Misprint ≡ Misprint
+      go true e = absurd (search rules)
+      go false e = refl
 
-pub value_number : {made : Field} {n : ℕ} (most : ℕ) → made ≡ Number n → value made < most → n < most
-unfolding value
-value_number most e h = rw e at h
+  some_digit_after : (n : ℕ) {d : ℕ} → Some d ≡ digit character → digit_after n character ≡ Number (10 * n + d)
+  unfolding digit digit_after
+  some_digit_after n {d} = go (is_digit character)
+    where
+      go : (b : Bool) → Some d ≡ cond b (Some (character - 48)) None → cond b (Number (10 * n + (character - 48))) Misprint ≡ Number (10 * n + d)
+      go true e = search rules
+      go false e = absurd (search rules)
+
+pub digit_small : (character : ℕ) {d : ℕ} → Some d ≡ digit character → d < 10
+unfolding digit
+digit_small character {d} = go (leb 48 character) (leb character 57) refl
+  where
+    go : (b c : Bool) → leb character 57 ≡ c → Some d ≡ cond (b && c) (Some (character - 48)) None → d < 10
+    go true true f e =
+        let same : d ≡ character - 48 = search rules in
+        omega (arith, leb-true character 57 f)
+    go true false f e = absurd (search rules)
+    go false c f e = absurd (search rules)
 
 -- A digit d makes n ten times n and d; any other character makes no field.
 digit_cases : (P : Field → Type 0) (n character : ℕ)
@@ -112,6 +136,94 @@ pub field_more : (l : List ℕ) (k : ℕ) {made next : Field} → k < length l �
 field_more l k h e f =
     f ∙ ap (λ (m : Field). after m (get_or l k 0)) e ∙ sym (field_snoc (take k l) (get_or l k 0)) ∙ rw (add-one, take-suc l k 0 h)
 
+-- What is no field stays none, whatever comes after it.
+misprint_stays : (l : List ℕ) (k : ℕ) → field (take k l) ≡ Misprint → field l ≡ Misprint
+unfolding field after
+misprint_stays l k e =
+    ap field (sym (take-append-drop k l)) ∙ foldl-append after Blank (take k l) (drop k l) ∙ rw e (stays (drop k l))
+  where
+    stays : (rest : List ℕ) → foldl after Misprint rest ≡ Misprint
+    stays [] = refl
+    stays (x ∷ xs) = stays xs
+
+-- While fewer than eight characters are read, the number has room for one digit more.
+pub field_small : (l : List ℕ) (k : ℕ) → k < 8 → value (field (take k l)) < 10_000_000
+field_small l k h =
+    let short : length (take k l) ≤ 7 = omega (arith, length-take k l) in
+    let most : 10 ^ length (take k l) ≤ 10 ^ 7 = pow-le-pow_right (lit< tt) short in
+    omega (arith, field_below (take k l))
+
+-- A field's characters read one after the other: `number` is what the first k make.
+module _ (l : List ℕ) (k : ℕ) (number : Option ℕ) (so_far : made number ≡ field (take k l)) where
+  -- All characters are read.
+  pub all_read : length l ≤ k → number ≡ number_in l
+  unfolding number_in number_made
+  all_read h = rw (← take_all k l h, ← so_far) (go number)
+    where
+      go : (number : Option ℕ) → number ≡ number_made (made number)
+      go None = refl
+      go (Some n) = refl
+
+  -- There is room for one digit more.
+  pub room_for_digit : {n : ℕ} → k < 8 → number ≡ Some n → n < 10_000_000
+  unfolding value
+  room_for_digit {n} h e =
+      let small : value (made number) < 10_000_000 = rw so_far (field_small l k h) in
+      rw e at small
+
+  module _ (some : k < length l) where
+    next_read : (next : Option ℕ) → after (made number) (get_or l k 0) ≡ made next → made next ≡ field (take (k + 1) l)
+    next_read next e = field_more l k some so_far (sym e)
+
+    misprint_read : after (made number) (get_or l k 0) ≡ Misprint → None ≡ number_in l
+    unfolding number_in number_made
+    misprint_read e = rw (misprint_stays l (k + 1) (sym (field_more l k some so_far refl) ∙ e))
+
+    module _ (blank : number ≡ None) where
+      pub space_read : get_or l k 0 ≡ 32 → made number ≡ field (take (k + 1) l)
+      space_read e = rw blank (next_read None (rw blank (after_space (get_or l k 0) e)))
+
+      module _ (other : get_or l k 0 ≡ 32 → ⊥) where
+        pub first_digit_read : (d : ℕ) → Some d ≡ digit (get_or l k 0) → made (Some d) ≡ field (take (k + 1) l)
+        first_digit_read d e =
+            let none : 10 * 0 + d ≡ d = omega arith in
+            next_read (Some d) (rw blank (after_blank _ other ∙ some_digit_after _ 0 e ∙ ap Number none))
+
+        pub first_digit_wrong : None ≡ digit (get_or l k 0) → None ≡ number_in l
+        first_digit_wrong e = misprint_read (rw blank (after_blank _ other ∙ no_digit_after _ 0 e))
+
+    pub after_zero_wrong : number ≡ Some 0 → None ≡ number_in l
+    after_zero_wrong e = misprint_read (rw e (after_zero (get_or l k 0)))
+
+    module _ {n : ℕ} (has : number ≡ Some n) (positive : n ≡ 0 → ⊥) where
+      pub next_digit_read : (d : ℕ) → Some d ≡ digit (get_or l k 0) → made (Some (10 * n + d)) ≡ field (take (k + 1) l)
+      next_digit_read d e = next_read (Some (10 * n + d)) (rw has (after_number _ positive ∙ some_digit_after _ n e))
+
+      pub next_digit_wrong : None ≡ digit (get_or l k 0) → None ≡ number_in l
+      next_digit_wrong e = misprint_read (rw has (after_number _ positive ∙ no_digit_after _ n e))
+
+-- What `scan` needs of each character.
+pub ruleset reading_steps = (room_for_digit, digit_small, first_digit_wrong, after_zero_wrong)
+
+-- What the code makes of characters: the number of a field, or none.
+pub some_number : (l : List ℕ) {n : ℕ} → Some n ≡ number_in l → (is_number (field l) ≡ true) × (n ≡ value (field l))
+unfolding number_in number_made is_number value
+some_number l {n} = go (field l)
+  where
+    go : (f : Field) → Some n ≡ number_made f → (is_number f ≡ true) × (n ≡ value f)
+    go Blank e = absurd (search rules)
+    go (Number m) e = (refl, search rules)
+    go Misprint e = absurd (search rules)
+
+pub none_number : (l : List ℕ) → None ≡ number_in l → is_number (field l) ≡ false
+unfolding number_in number_made is_number
+none_number l = go (field l)
+  where
+    go : (f : Field) → None ≡ number_made f → is_number f ≡ false
+    go Blank e = refl
+    go (Number m) e = absurd (search rules)
+    go Misprint e = refl
+
 -- The character of a number's digit, with a space where nothing of the number is left.
 digit_or : ℕ → ℕ
 digit_or m = cond (eqb m 0) 32 (48 + m % 10)
@@ -168,9 +280,9 @@ last_digit m = go (eqb (m / 10) 0) refl
     go : (b : Bool) → eqb (m / 10) 0 ≡ b → after (cond b Blank (Number (m / 10))) (48 + m % 10) ≡ Number m
     go true e =
         let none : m / 10 ≡ 0 = eqb-true (m / 10) 0 e in
-        sym (after_blank (48 + m % 10) refl (λ z. omega arith)) ∙ digit_more 0 (m % 10) m (omega arith) (omega arith)
+        after_blank (48 + m % 10) (λ z. omega arith) ∙ digit_more 0 (m % 10) m (omega arith) (omega arith)
     go false e =
-        sym (after_number (48 + m % 10) refl (eqb-false (m / 10) 0 e)) ∙ digit_more (m / 10) (m % 10) m (omega arith) (omega arith)
+        after_number (48 + m % 10) (eqb-false (m / 10) 0 e) ∙ digit_more (m / 10) (m % 10) m (omega arith) (omega arith)
 
 next_digit : (m : ℕ) → after (so_far (m / 10)) (digit_or m) ≡ so_far m
 unfolding so_far digit_or
@@ -179,7 +291,7 @@ next_digit m = go (eqb m 0) refl
     go : (b : Bool) → eqb m 0 ≡ b → after (so_far (m / 10)) (cond b 32 (48 + m % 10)) ≡ cond b Blank (Number m)
     go true e =
         let none : m / 10 ≡ 0 = omega (arith, eqb-true m 0 e) in
-        sym (after_space 32 (rw none) refl)
+        rw none (after_space 32 refl)
     go false e = last_digit m
 
 field_padded : (k m : ℕ) → m < 10 ^ k → field (padded k m) ≡ so_far m
@@ -233,10 +345,3 @@ printed_field l n e f =
     let whole : take 8 l ≡ l = take_all 8 l (omega arith) in
     let known : Text 8 l (Number n) = rw (whole, f) at (text 8 l (omega arith)) in
     known ∙ sym (printed_padded n)
-
--- While fewer than eight characters are read, the number has room for one digit more.
-pub field_small : (l : List ℕ) (k : ℕ) → k < 8 → value (field (take k l)) < 10_000_000
-field_small l k h =
-    let short : length (take k l) ≤ 7 = omega (arith, length-take k l) in
-    let most : 10 ^ length (take k l) ≤ 10 ^ 7 = pow-le-pow_right (lit< tt) short in
-    omega (arith, field_below (take k l))

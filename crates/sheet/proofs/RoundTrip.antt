@@ -8,11 +8,9 @@ use Rattle.answer.specs.Told.{Told, counted, refusal, lent_space_short}
 use Rattle.answer.specs.Length.{rows_in}
 use Rattle.answer.specs.Lists.{joined, part, over}
 use Rattle.answer.proofs.Lists.{part_length, part_at, part_append, joined_part, joined_same, joined_parts, joined_elements, joined_at}
-use Rattle.sheet.specs.Field.{field, is_number, value, printed}
+use Rattle.sheet.specs.Field.{Field, Blank, Number, Misprint, field, is_number, value, printed}
 use Rattle.sheet.specs.Line.{line}
 use Rattle.sheet.specs.Sheet.{field_at, misprinted, numbers_of, reading, after_reading, lines_of, too_large, writing, after_writing, rows_read, bytes_written}
-use Rattle.sheet.specs.declared.field.Field.{Field}
-use Rattle.sheet.specs.declared.field.Field.TheVariants.{Blank, Number, Misprint}
 use Rattle.sheet.proofs.Fields.{field_below, field_printed, printed_field}
 use Rattle.sheet.proofs.Sheets.{fields, field_long, fields_length, line_length, numbers_length, lines_length}
 use Rattle.sheet.proofs.Answers.{Readable, Writable, accepted_readable, accepted_writable, readable_accepted, writable_accepted, writable_short}

@@ -1,38 +1,58 @@
 -- The laws of lines and sheets: a place's judgement, the numbers read and the lines printed one after the other. Assumes nothing.
-use Rattle.std.proofs.Common.{◌≡◌, refl, sym, ap, ◌∙◌, not, false, List, [], ◌∷◌, ◌++◌, ℕ, zero, suc, ◌+◌, ◌-◌, ◌*◌, ◌/◌, ◌%◌, ◌<◌, ◌≤◌, one-mul, mul-suc, add-zero, mod-eq_of_lt, add-one, arith, eqb, length, get_or, set, length-append, ne_eqb, lt-ltb, le-ltb}
+use Rattle.std.proofs.Common.{◌≡◌, refl, sym, ap, subst, ◌∙◌, not, Bool, T, true, false, cond, Ok, Err, Some, None, rules, List, [], ◌∷◌, ◌++◌, ℕ, zero, suc, ◌+◌, ◌-◌, ◌*◌, ◌/◌, ◌%◌, ◌<◌, ◌≤◌, one-mul, mul-suc, add-zero, mod-eq_of_lt, add-one, arith, eqb, ltb, length, get_or, set, take, drop, drop-drop, mul-zero, le_of_suc-le-suc, not-suc-le-zero, le_refl, length-append, ne_eqb, lt-ltb, le-ltb, ltb-true, ltb-false}
 use native.Mathlib.Nat.{div-eq_of_lt, mul-add-div, mul-add-mod_self_left}
 use native.Mathlib.Decide.{dec_lt}
 use borrow.Rule.Slice.PartMut.{put_mid}
+use Rattle.std.specs.Simd.{first_chunks}
+use Rattle.answer.specs.declared.refusal.Reason.TheVariants.{Misprint}
+use Rattle.answer.specs.declared.refusal.Refusal.{Refusal}
+use Rattle.answer.specs.Told.{Told, told, counted, misprint}
 use Rattle.answer.specs.First.{first}
 use Rattle.answer.specs.Lists.{joined, part, over}
-use Rattle.answer.proofs.Places.{first_is, before_first, first_most, at_first}
+use Rattle.answer.proofs.Places.{first_is, first_none, before_first, first_most, at_first}
 use Rattle.answer.proofs.Lists.{part_again, part_whole, over_set, over_whole, joined_add, joined_same, joined_length, joined_over}
-use Rattle.sheet.specs.Field.{field, is_number, value, printed}
+use Rattle.sheet.specs.Field.{field, is_number, value, number_in, printed}
 use Rattle.sheet.specs.Line.{line}
-use Rattle.sheet.specs.Sheet.{field_at, misprinted, numbers_of, lines_of, after_printing}
-use Rattle.sheet.specs.declared.field.Field.{Field}
+use Rattle.sheet.specs.Sheet.{refusal_at, placed, field_at, misprinted, line_read, lines_read, numbers_of, lines_of, after_printing}
+use Rattle.sheet.proofs.Fields.{some_number, none_number}
 
--- A line by itself, as a sheet of one line: its fields and the byte after them.
-module _ (line : List ℕ) (long : length line ≡ 65) (column : ℕ) where
-  only_line : (i : ℕ) → i ≡ 0 → field_at line i column ≡ part 8 column line
+-- A part among the parts that the code cuts a list into.
+part_of_chunks : (size n i : ℕ) (list : List ℕ) → i < n → get_or (first_chunks size n list) i [] ≡ part size i list
+unfolding part
+part_of_chunks size zero i list h = absurd (not-suc-le-zero h)
+part_of_chunks size (suc n) zero list h = rw mul-zero
+part_of_chunks size (suc n) (suc i) list h =
+    part_of_chunks size n i (drop size list) (le_of_suc-le-suc h)
+    ∙ ap (take size) (drop-drop (size * i) size list ∙ ap (λ (k : ℕ). drop k list) (omega (arith, mul-suc size i)))
+
+pub part_cut : (size n i : ℕ) (list : List ℕ) {parts : List (List ℕ)} → parts ≡ first_chunks size n list → i < n → get_or parts i [] ≡ part size i list
+part_cut size n i list cut h = rw cut (part_of_chunks size n i list h)
+
+-- A field of a line by itself, as a sheet of one line, and what the code makes of it.
+module _ (line : List ℕ) (long : length line ≡ 65) (column : ℕ) (some : column < 8) where
+  only_field : field_at line (column / 8) (column % 8) ≡ part 8 column line
   unfolding field_at
-  only_line i first = rw (first, part_whole 65 line long)
+  only_field =
+      let top : column / 8 ≡ 0 = omega arith in
+      let same : column % 8 ≡ column = omega arith in
+      rw (top, same, part_whole 65 line long)
 
-  module _ (some : column < 8) {f g : Field} (scanned : f ≡ field (part 8 column line)) (case : f ≡ g) where
-    pub line_field : not (is_number g) ≡ misprinted line column
-    unfolding misprinted
-    line_field =
-        let at : column % 9 ≡ column = omega arith in
-        rw (ne_eqb (column % 9) 8 (omega arith), at, only_line (column / 9) (omega arith)) (ap (λ (x : Field). not (is_number x)) (sym case ∙ scanned))
+  field_judged : not (is_number (field (part 8 column line))) ≡ misprinted line column
+  unfolding misprinted field_at
+  field_judged =
+      let top : column / 9 ≡ 0 = omega arith in
+      let same : column % 9 ≡ column = omega arith in
+      rw (same, ne_eqb column 8 (omega arith), top, part_whole 65 line long)
 
-    pub line_number : value g ≡ value (field (field_at line (column / 8) (column % 8)))
-    line_number =
-        let at : column % 8 ≡ column = omega arith in
-        rw (at, only_line (column / 8) (omega arith)) (ap value (sym case ∙ scanned))
+  pub field_wrong : None ≡ number_in (part 8 column line) → misprinted line column ≡ true
+  field_wrong e = sym field_judged ∙ ap not (none_number (part 8 column line) e)
 
-    -- Where it is no number, it is the line's first misprint if none stands to its left.
-    pub line_first : is_number g ≡ false → ((k : ℕ) → k < column → misprinted line k ≡ false) → column ≡ first (misprinted line) 9
-    line_first none left = sym (first_is (misprinted line) 9 column (omega arith) left (sym line_field ∙ ap not none))
+  module _ {n : ℕ} (read : Some n ≡ number_in (part 8 column line)) where
+    pub field_right : misprinted line column ≡ false
+    field_right = sym field_judged ∙ ap not (some_number (part 8 column line) read).0
+
+    pub field_number : n ≡ value (field (field_at line (column / 8) (column % 8)))
+    field_number = (some_number (part 8 column line) read).1 ∙ ap (λ (l : List ℕ). value (field l)) (sym only_field)
 
 pub line_last : (line : List ℕ) → length line ≡ 65 → not (eqb (get_or line 64 0) 10) ≡ misprinted line 8
 unfolding misprinted
@@ -45,6 +65,38 @@ located size row k few =
     let only : k / size ≡ 0 = div-eq_of_lt few in
     let same : k % size ≡ k = mod-eq_of_lt few in
     (mul-add-div some row k ∙ rw only (add-zero row), mul-add-mod_self_left size row k ∙ same, only, same)
+
+-- What is read of a line: the refusal of its first misprint, or its numbers.
+module _ (line : List ℕ) (row : ℕ) where
+  pub line_refused : (column : ℕ) {r : Refusal} → column < 9 → ((k : ℕ) → k < column → misprinted line k ≡ false) → misprinted line column ≡ true
+      → r ≡ placed Misprint row column → Err r ≡ line_read row line
+  unfolding line_read
+  line_refused column few left here e = rw (first_is (misprinted line) 9 column few left here, lt-ltb column 9 few, e)
+
+  pub line_accepted : {numbers : List ℕ} → ((k : ℕ) → k < 9 → misprinted line k ≡ false) → numbers ≡ numbers_of 8 line → Ok numbers ≡ line_read row line
+  unfolding line_read
+  line_accepted right e = rw (first_none (misprinted line) 9 right, e)
+
+  pub refused_line : {r : Refusal} → Err r ≡ line_read row line
+      → (r ≡ placed Misprint row (first (misprinted line) 9)) × (first (misprinted line) 9 < 9)
+  unfolding line_read
+  refused_line {r} = go (ltb (first (misprinted line) 9) 9) refl
+    where
+      go : (few : Bool) → ltb (first (misprinted line) 9) 9 ≡ few
+          → Err r ≡ cond few (Err (placed Misprint row (first (misprinted line) 9))) (Ok (numbers_of 8 line))
+          → (r ≡ placed Misprint row (first (misprinted line) 9)) × (first (misprinted line) 9 < 9)
+      go true f e = (search rules, ltb-true (first (misprinted line) 9) 9 f)
+      go false f e = absurd (search rules)
+
+  pub accepted_line : {numbers : List ℕ} → Ok numbers ≡ line_read row line → (numbers ≡ numbers_of 8 line) × (9 ≤ first (misprinted line) 9)
+  unfolding line_read
+  accepted_line {numbers} = go (ltb (first (misprinted line) 9) 9) refl
+    where
+      go : (few : Bool) → ltb (first (misprinted line) 9) 9 ≡ few
+          → Ok numbers ≡ cond few (Err (placed Misprint row (first (misprinted line) 9))) (Ok (numbers_of 8 line))
+          → (numbers ≡ numbers_of 8 line) × (9 ≤ first (misprinted line) 9)
+      go true f e = absurd (search rules)
+      go false f e = (search rules, ltb-false (first (misprinted line) 9) 9 f)
 
 -- A place of a sheet is one of its line's.
 pub place_of_line : (sheet : List ℕ) (row k : ℕ) → k < 9 → misprinted sheet (9 * row + k) ≡ misprinted (part 65 row sheet) k
@@ -75,6 +127,26 @@ module _ (sheet : List ℕ) (row : ℕ) (above : (k : ℕ) → k < 9 * row → m
 
   pub line_right : 9 ≤ column → (k : ℕ) → k < 9 * (row + 1) → misprinted sheet k ≡ false
   line_right all k h = before k (omega arith)
+
+-- What is told of lines that are read.
+module _ (sheet : List ℕ) (lines : ℕ) where
+  pub lines_refused : {row column : ℕ} {r : Refusal} → column < 9 → row < lines → 9 * row + column ≡ first (misprinted sheet) (9 * lines)
+      → r ≡ placed Misprint row column → told (Err r) ≡ lines_read sheet lines
+  unfolding refusal_at
+  lines_refused {row} {column} few inside found e =
+      let at = located 9 row column few in
+      rw (← found, lt-ltb (9 * row + column) (9 * lines) (omega arith), at.0, at.1, e)
+
+  pub lines_counted : ((k : ℕ) → k < 9 * lines → misprinted sheet k ≡ false) → counted lines ≡ lines_read sheet lines
+  lines_counted right = rw (first_none (misprinted sheet) (9 * lines) right, le-ltb (9 * lines) (9 * lines) (le_refl (9 * lines)))
+
+  pub counted_lines : {n : ℕ} → counted n ≡ lines_read sheet lines → n ≡ lines
+  unfolding refusal_at
+  counted_lines {n} = go (ltb (first (misprinted sheet) (9 * lines)) (9 * lines))
+    where
+      go : (b : Bool) → counted n ≡ cond b (refusal_at misprint 9 (first (misprinted sheet) (9 * lines))) (counted lines) → n ≡ lines
+      go true e = absurd (subst T (ap (λ (t : Told). t.is_count) e) tt)
+      go false e = ap (λ (t : Told). t.count) e
 
 -- The numbers of a sheet, one after the other.
 pub numbers_length : (n : ℕ) (sheet : List ℕ) → length (numbers_of n sheet) ≡ n

@@ -7,9 +7,8 @@ use Rattle.answer.specs.Told.{counted, refusal, lent_space_short}
 use Rattle.answer.specs.Length.{most_rows}
 use Rattle.answer.specs.Text.{bytes}
 use Rattle.answer.specs.Houses.{p1, p1_sheet}
-use Rattle.sheet.specs.Field.{field, printed}
+use Rattle.sheet.specs.Field.{Number, Misprint, field, printed}
 use Rattle.sheet.specs.Sheet.{reading, after_reading, writing, after_writing, rows_read, bytes_written}
-use Rattle.sheet.specs.declared.field.Field.TheVariants.{Number, Misprint}
 use Rattle.sheet.proofs.Fields as fields
 use Rattle.sheet.proofs.Answers as answers
 use Rattle.sheet.proofs.RoundTrip as round_trip

@@ -1,12 +1,21 @@
 -- One field. Document 01: "A field is a decimal number, right-justified, padded left with spaces, no sign, no leading zero; zero is
 -- written 0, never blank." Characters are bytes: 32 is the space, 48 to 57 are the digits 0 to 9.
-use Rattle.std.specs.Prelude.{ℕ, ◌+◌, ◌-◌, ◌*◌, ◌/◌, ◌%◌, Bool, true, false, cond, ◌&&◌, eqb, leb, ltb}
+use Rattle.std.specs.Prelude.{ℕ, ◌+◌, ◌-◌, ◌*◌, ◌/◌, ◌%◌, Bool, true, false, cond, ◌&&◌, eqb, leb, ltb, Option, Some, None}
 use mathlib.Core.List.{List, [], ◌∷◌, foldl}
-use Rattle.sheet.specs.declared.field.Field.{Field}
-use Rattle.sheet.specs.declared.field.Field.TheVariants.{Blank, Number, Misprint}
+
+-- What the characters of a field make so far: nothing where they are spaces alone; a number where one comes after the spaces; else they are no
+-- field.
+pub data Field : Type 0 where
+  Blank : Field
+  Number : ℕ → Field
+  Misprint : Field
 
 abbrev pub is_digit : ℕ → Bool
 is_digit character = leb 48 character && leb character 57
+
+-- What a digit counts.
+unfoldable pub digit : ℕ → Option ℕ
+digit character = cond (is_digit character) (Some (character - 48)) None
 
 -- A number with one digit more after it; any other character there makes no field.
 unfoldable pub digit_after : ℕ → ℕ → Field
@@ -33,6 +42,15 @@ unfoldable pub value : Field → ℕ
 value Blank = 0
 value (Number n) = n
 value Misprint = 0
+
+-- The number of characters that are a field, as the code has it.
+unfoldable pub number_made : Field → Option ℕ
+number_made Blank = None
+number_made (Number n) = Some n
+number_made Misprint = None
+
+unfoldable pub number_in : List ℕ → Option ℕ
+number_in characters = number_made (field characters)
 
 -- The character at the place of the tens (weight 10), of the hundreds (weight 100) and so on: the number's digit there, or a space where the
 -- number is smaller than the weight.

@@ -1,7 +1,10 @@
 -- A sheet read into a lent table, and a table written as a sheet. Document 01, "The sheet and the table" and "What a refused sheet is
 -- told": "Reading tests 1, then 9, then 2 from the top, leftmost field first"; "The writer tests 1, 4 (..), 9".
-use Rattle.std.specs.Prelude.{ℕ, ◌+◌, ◌*◌, ◌/◌, ◌%◌, Bool, cond, not, List, [], ◌∷◌, length, get_or, take, eqb, ltb}
+use Rattle.std.specs.Prelude.{ℕ, ◌+◌, ◌*◌, ◌/◌, ◌%◌, Bool, cond, not, List, [], ◌∷◌, length, get_or, take, eqb, ltb, Option, Some, None, Result, Ok, Err}
 use Rattle.answer.specs.Told.{Told, counted, refusal, accepts, sheet_length, misprint, out_of_range, lent_space_short}
+use Rattle.answer.specs.declared.refusal.Reason.{Reason}
+use Rattle.answer.specs.declared.refusal.Reason.TheVariants.{Misprint}
+use Rattle.answer.specs.declared.refusal.Refusal.{Refusal}
 use Rattle.answer.specs.First.{first}
 use Rattle.answer.specs.Length.{rows_in}
 use Rattle.answer.specs.Lists.{joined, part, over}
@@ -11,6 +14,10 @@ use Rattle.sheet.specs.Line.{line}
 -- The refusal at a place. Places count from 0, from the top and from the left, `columns` to a row.
 unfoldable pub refusal_at : ℕ → ℕ → ℕ → Told
 refusal_at number columns at = refusal number (at / columns + 1) (at % columns + 1)
+
+-- The refusal at a row and a column that count from 0, as the code has it.
+abbrev pub placed : Reason → ℕ → ℕ → Refusal
+placed reason row column = record { reason = reason; row = row + 1; column = column + 1 }
 
 -- Reading
 
@@ -28,15 +35,30 @@ misprinted sheet place =
 unfoldable pub numbers_of : ℕ → List ℕ → List ℕ
 numbers_of count sheet = joined count (λ place. value (field (field_at sheet (place / 8) (place % 8))) ∷ [])
 
+-- The line at a row read: its numbers, or the refusal of its first misprint.
+unfoldable pub line_read : ℕ → List ℕ → Result (List ℕ) Refusal
+line_read row line =
+    let column = first (misprinted line) 9 in
+    cond (ltb column 9) (Err (placed Misprint row column)) (Ok (numbers_of 8 line))
+
+-- The same where the numbers are written into what is lent.
+abbrev pub with_numbers : Result (Unit {0}) Refusal → List ℕ → Result (List ℕ) Refusal
+with_numbers (Ok _) numbers = Ok numbers
+with_numbers (Err r) numbers = Err r
+
+-- What is told of so many lines of a sheet: the refusal of their first misprint, or their count.
+abbrev pub lines_read : List ℕ → ℕ → Told
+lines_read sheet lines =
+    let at = first (misprinted sheet) (9 * lines) in
+    cond (ltb at (9 * lines)) (refusal_at misprint 9 at) (counted lines)
+
 -- The answer of reading a sheet into a table of `lent` numbers.
 unfoldable pub reading : List ℕ → ℕ → Told
 reading sheet lent =
     let lines = rows_in 65 (length sheet) in
-    let at = first (misprinted sheet) (9 * lines) in
     cond (eqb lines 0) (refusal sheet_length 0 0)
     (cond (ltb lent (8 * lines)) (refusal lent_space_short 0 0)
-    (cond (ltb at (9 * lines)) (refusal_at misprint 9 at)
-    (counted lines)))
+    (lines_read sheet lines))
 
 -- The lent table afterwards.
 unfoldable pub after_reading : List ℕ → List ℕ → List ℕ
@@ -57,6 +79,12 @@ after_printing table sheet =
 -- Whether refusal 4 is due at a place, eight to a row: a number over 99,999,999.
 unfoldable pub too_large : List ℕ → ℕ → Bool
 too_large table place = ltb 99_999_999 (get_or table place 0)
+
+-- The first place of a number too large, if there is one.
+unfoldable pub large_place : List ℕ → Option ℕ
+large_place table =
+    let at = first (too_large table) (length table) in
+    cond (ltb at (length table)) (Some at) None
 
 -- The answer of writing a table into `lent` bytes.
 unfoldable pub writing : List ℕ → ℕ → Told

@@ -1,73 +1,43 @@
 // One field: its characters read as a number, and a number printed.
-ghost use Rattle.std.specs.Prelude.{◌≡◌, ◌<◌, ◌≤◌, length};
-ghost use Rattle.sheet.specs.Field.{value, digit_after, after, field, digit_or_space, printed};
+ghost use Rattle.std.specs.Prelude.{◌≡◌, ◌<◌, length};
+ghost use Rattle.sheet.specs.Field.{digit, number_in, digit_or_space, printed};
 
 // How many characters a field has.
 pub(crate) const FIELD_WIDTH: usize = 8;
 
-// What the characters of a field make so far.
-#[derive(Clone, Copy)]
-pub enum Field {
-    // Spaces alone.
-    Blank,
-    // Spaces, then a number.
-    Number(u32),
-    // Characters that are no field.
-    Misprint,
+// What a digit counts; none where the character is no digit.
+#[tactic(auto, unfolding(crate::specs::Field::digit))]
+fn digit(character: u8) -> Option<u32>
+    ensures { result ≡ digit character }
+{
+    match character {
+        b'0'..=b'9' => Some(u32::from(character - b'0')),
+        _ => None,
+    }
 }
 
-// A number with one digit more after it; any other character there makes no field.
-fn digit_after(n: u32, character: u8) -> Field
-    requires { n < 10_000_000 }
-    ensures { result ≡ digit_after n character }
+// The number that a field's characters make, or none where they are no field.
+#[tactic(auto, using(crate::proofs::Fields::reading_steps), unfolding(crate::specs::Field::field))]
+pub(crate) fn scan(characters: &[u8; FIELD_WIDTH]) -> Option<u32>
+    ensures { result ≡ number_in characters.now }
 {
-    if character < b'0' {
-        return Field::Misprint;
-    }
-    if b'9' < character {
-        return Field::Misprint;
-    }
-    Field::Number(10 * n + (character - b'0') as u32)
-}
-
-// What a field's characters make, with one character more.
-fn after(made: Field, character: u8) -> Field
-    requires { value made < 10_000_000 }
-    ensures { result ≡ after made character }
-{
-    match made {
-        Field::Blank => {
-            if character == b' ' {
-                return Field::Blank;
-            }
-            digit_after(0, character)
+    // None as long as the characters are spaces.
+    let mut number = None;
+    for &character in characters {
+        match number {
+            None if character == b' ' => {}
+            None => number = Some(digit(character)?),
+            // Nothing comes after a first 0.
+            Some(0) => return None,
+            Some(n) => number = Some(10 * n + digit(character)?),
         }
-        Field::Number(n) => {
-            if n == 0 {
-                return Field::Misprint;
-            }
-            digit_after(n, character)
-        }
-        Field::Misprint => Field::Misprint,
     }
-}
-
-// What up to eight characters make.
-pub(crate) fn scan(characters: &[u8]) -> Field
-    requires { length characters.now ≤ 8 }
-    ensures { result ≡ field characters.now }
-{
-    let mut made = Field::Blank;
-    let mut k = 0;
-    while k < characters.len() {
-        made = after(made, characters[k]);
-        k += 1;
-    }
-    made
+    number
 }
 
 // The character at the place of the tens (weight 10), of the hundreds (weight 100) and so on: the
 // number's digit there, or a space where the number is smaller than the weight.
+#[tactic(auto, unfolding(crate::specs::Field::digit_or_space))]
 fn digit_or_space(weight: u32, n: u32) -> u8
     requires { 0 < weight }
     ensures { result ≡ digit_or_space weight n }
@@ -78,7 +48,8 @@ fn digit_or_space(weight: u32, n: u32) -> u8
     b'0' + (n / weight % 10) as u8
 }
 
-// Prints a number over the eight characters of a field: its last eight digits, if it has more.
+// Prints a number over the eight characters of a field: its last eight digits, if it has more. They are
+// written in place, since an array handed back by value takes a fifth more time.
 pub(crate) fn print(n: u32, characters: &mut [u8])
     requires { length characters.old ≡ 8 }
     ensures { characters.new ≡ printed n }

@@ -10,37 +10,23 @@ mod line;
 mod reader;
 mod writer;
 
-ghost use Rattle.std.specs.Prelude.{◌≡◌, ◌<◌, ◌*◌};
-ghost use Rattle.answer.specs.Told.{told, refusal};
+ghost use Rattle.std.specs.Prelude.{◌≡◌, ◌<◌};
 ghost use Rattle.answer.specs.Length.{most_rows};
-ghost use Rattle.sheet.specs.Sheet.{refusal_at};
+ghost use Rattle.sheet.specs.Sheet.{placed};
 
-use answer::Answer;
+use answer::{Reason, Refusal};
 pub use line::{LINE, ROW, print_line};
 pub use reader::read;
 pub use writer::{print_rows, write};
 
-// A refusal that has no place.
-fn refused(number: u32) -> Answer
-    ensures { told result ≡ refusal number 0 0 }
+// The refusal at a row and a column, which count from 0 here and from 1 where they are told.
+fn refusal_at(reason: Reason, row: usize, column: usize) -> Refusal
+    requires row { row < most_rows }
+    requires column { column < 9 }
+    ensures { result ≡ placed reason row column }
 {
-    Answer::Refused {
-        number,
-        row: 0,
-        column: 0,
-    }
-}
-
-// The refusal at a place. Places count from 0, from the top and from the left, `columns` to a row.
-fn refused_at(number: u32, at: usize, columns: usize) -> Answer
-    requires at { at < 9 * most_rows }
-    requires columns { 0 < columns }
-    ensures { told result ≡ refusal_at number columns at }
-{
-    let row = at / columns;
-    let column = at % columns;
-    Answer::Refused {
-        number,
+    Refusal {
+        reason,
         row: row as u32 + 1,
         column: column as u32 + 1,
     }

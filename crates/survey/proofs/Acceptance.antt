@@ -1,13 +1,13 @@
 -- Acceptance: what a table that is refused on no ground is made of. Assumes nothing.
-use Rattle.std.proofs.Common.{◌≡◌, refl, sym, ap, subst, ◌∙◌, Bool, true, false, cond, not, List, ℕ, ◌+◌, ◌-◌, ◌%◌, ◌<◌, ◌≤◌, le_refl, arith, eqb, leb, ltb, bit_and, length, eqb-true, ltb-true, ltb-false, leb-false, ne_eqb, le-ltb}
+use Rattle.std.proofs.Common.{◌≡◌, refl, sym, ap, subst, ◌∙◌, Result, Ok, Err, T, Bool, true, false, cond, not, List, ℕ, ◌+◌, ◌-◌, ◌%◌, ◌<◌, ◌≤◌, le_refl, arith, eqb, leb, ltb, bit_and, length, eqb-true, ltb-true, ltb-false, leb-false, ne_eqb, le-ltb}
 use native.Mathlib.Decide.{dec_lt}
 use borrow.Author.Tests.{eqb-false, not-false}
-use Rattle.answer.specs.declared.Answer.{Answer}
-use Rattle.answer.specs.declared.Answer.TheVariants.{Count, Refused}
+use Rattle.answer.specs.declared.refusal.Refusal.{Refusal}
 use Rattle.answer.specs.Told.{Told, told, counted, refusal, sheet_length, row_out_of_order, mark_on_absent_part, no_such_day, dates_out_of_order}
 use Rattle.answer.specs.First.{first}
 use Rattle.answer.specs.Length.{most_walls, rows_in, Whole}
-use Rattle.answer.proofs.Refusals.{passed, refused_told}
+use Rattle.answer.proofs.Refusals.{refused_told}
+use Rattle.answer.proofs.Refusals as refusals
 use Rattle.answer.proofs.Places.{before_first, at_first}
 use Rattle.answer.proofs.Lengths.{rows_whole}
 use Rattle.calendar.specs.Days.{is_day}
@@ -16,11 +16,11 @@ use Rattle.survey.specs.Ranges.{zone, house_columns, storey_columns, ends_column
 use Rattle.survey.specs.Judgement.{fault, none, faulty, test, columns_fault, house_fault, storey_fault, ends_fault, storey_before, wall_fault, within, parts_fault, has_no_day, days_fault, order_fault, dates_fault, row_fault, judging}
 use Rattle.survey.specs.Acceptance.{Inside, Accepted}
 use Rattle.survey.specs.Internal.{JudgedTo}
-use Rattle.survey.proofs.Faults.{not_faulty}
+use Rattle.survey.proofs.Faults.{passed, not_faulty}
 use Rattle.survey.proofs.Positions.{by_place_lem}
-use Rattle.survey.proofs.RowFaults.{ends_right, wall_right, parts_right, days_right, order_right, dates_order, row_house, row_storey, row_ends, row_wall, row_parts, row_dates, row_after}
+use Rattle.survey.proofs.RowFaults.{ends_right, wall_right, parts_right, days_right, order_right, row_house, row_storey, row_ends, row_wall, row_parts, row_dates, row_after}
 use Rattle.survey.proofs.Judging.{judging_accepted}
-use Rattle.survey.proofs.RefusalNumbers.{judging_by_number}
+use Rattle.survey.proofs.RefusalNumbers.{judging_accepts}
 use Rattle.survey.proofs.FaultlessRows.{Clean, then_clean, test_clean, columns_inside, inside_columns, house_storeys}
 
 -- Every row is without a fault, and the dates row is among them.
@@ -43,7 +43,7 @@ faultless table h = go (ltb row rows) refl some.1
     rest = cond (ltb rows (rows_due table)) (refusal row_out_of_order (rows + 1) 1) (counted rows)
 
     some : (eqb rows 0 ≡ false) × ((cond (ltb row rows) (refusal (row_fault table row).number (row + 1) (row_fault table row).column) rest).number ≡ 0)
-    some = passed (eqb rows 0) (refusal sheet_length 0 0) _ refl h
+    some = refusals.passed (eqb rows 0) (refusal sheet_length 0 0) _ refl h
 
     go : (b : Bool) → ltb row rows ≡ b → (cond b (refusal (row_fault table row).number (row + 1) (row_fault table row).column) rest).number ≡ 0
         → Faultless table rows
@@ -51,7 +51,7 @@ faultless table h = go (ltb row rows) refl some.1
     go false e z = record {
       size = rows_whole 8 (length table) refl (eqb-false rows 0 some.0);
       clean = λ k l. ltb-false 0 (row_fault table k).number (before_first (λ i. faulty (row_fault table i)) rows k (omega (arith, ltb-false row rows e)));
-      reaches = ltb-false rows (rows_due table) (passed (ltb rows (rows_due table)) (refusal row_out_of_order (rows + 1) 1) (counted rows) refl z).0;
+      reaches = ltb-false rows (rows_due table) (refusals.passed (ltb rows (rows_due table)) (refusal row_out_of_order (rows + 1) 1) (counted rows) refl z).0;
     }
 
 module _ (table : List ℕ) (h : (judging table).number ≡ 0) where
@@ -213,7 +213,7 @@ module _ (table : List ℕ) (a : Accepted table) where
 
   ends_clear : (row : ℕ) → storeys table < row → row < first_wall table → none ≡ row_fault table row
   ends_clear row above before =
-      ends_right table row (inside_columns 3 (ends_columns table row) table row (omega arith) (a.ends_inside row above before)) (le_refl 0) (a.ends_fit row above before)
+      ends_right table row (inside_columns 3 (ends_columns table row) table row (omega arith) (a.ends_inside row above before)) (a.ends_fit row above before)
       ∙ row_ends table row (omega arith) above before
 
   storey_rises : (row : ℕ) → first_wall table ≤ row → row < parts_row table → storey_before table row ≤ cell table row 1
@@ -229,22 +229,23 @@ module _ (table : List ℕ) (a : Accepted table) where
 
   wall_clear : (row : ℕ) → first_wall table ≤ row → row < parts_row table → none ≡ row_fault table row
   wall_clear row past before =
-      wall_right table row (storey_rises row past before) (inside_columns 1 (wall_columns table row) table row (omega arith) (a.wall_inside row past before)) (le_refl 0) (omega (arith, a.few))
+      wall_right table row (storey_rises row past before) (inside_columns 1 (wall_columns table row) table row (omega arith) (a.wall_inside row past before)) (omega (arith, a.few))
       ∙ row_wall table row (omega arith) (omega (arith, storeys_known)) past before
 
   parts_clear : none ≡ row_fault table (parts_row table)
   unfolding within
   parts_clear =
       let row = parts_row table in
-      parts_right table row (inside_columns 1 parts_columns table row (omega arith) a.parts_inside) (le_refl 0)
+      parts_right table row (inside_columns 1 parts_columns table row (omega arith) a.parts_inside)
       (eqb-true (bit_and (cell table row 2) (cell table row 1)) (cell table row 2) a.marks_present) (λ e. omega (arith, a.some_present))
       ∙ row_parts table row refl
 
   dates_clear : none ≡ row_fault table (dates_row table)
+  unfolding dates_fault
   dates_clear =
       let row = dates_row table in
-      dates_order table row (inside_columns 1 dates_columns table row (omega arith) a.dates_inside) (le_refl 0)
-      (days_right table row (rw a.days.0) (rw a.days.1) (rw a.days.2)) (le_refl 0) (order_right table row a.in_order.0 a.in_order.1)
+      passed _ _ (inside_columns 1 dates_columns table row (omega arith) a.dates_inside)
+      (passed _ _ (days_right table row (rw a.days.0) (rw a.days.1) (rw a.days.2)) (order_right table row a.in_order.0 a.in_order.1))
       ∙ row_dates table row refl
 
   all_clear : (row : ℕ) → row < rows_due table → none ≡ row_fault table row
@@ -257,14 +258,14 @@ module _ (table : List ℕ) (a : Accepted table) where
       sym (judging_accepted judged refl (le_refl rows))
 
 -- The two ways out of judging.
-module _ (table : List ℕ) {answer : Answer} (judged : told answer ≡ judging table) where
-  pub judge_refused : {number row column : ℕ} → answer ≡ Refused number row column → (judging table).number ≡ 0 → ⊥
-  judge_refused e = eqb-false (judging table).number 0 (sym (judging_by_number table) ∙ refused_told judged e)
+module _ (table : List ℕ) {answer : Result ℕ Refusal} (judged : told answer ≡ judging table) where
+  pub judge_refused : {r : Refusal} → answer ≡ Err r → (judging table).number ≡ 0 → ⊥
+  judge_refused e h = absurd (subst T (sym (judging_accepts table h) ∙ refused_told judged e) tt)
 
-  pub judge_accepted : {count : ℕ} → answer ≡ Count count → ((judging table).number ≡ 0) × (count ≡ rows_due table)
+  pub judge_accepted : {count : ℕ} → answer ≡ Ok count → ((judging table).number ≡ 0) × (count ≡ rows_due table)
   judge_accepted {count} e =
-      let h : (judging table).number ≡ 0 = ap (λ (x : Told). x.number) (sym judged) ∙ ap (λ (x : Answer). (told x).number) e in
-      (h, ap (λ (x : Answer). (told x).count) (sym e) ∙ ap (λ (x : Told). x.count) (judged ∙ accepted_count table h))
+      let h : (judging table).number ≡ 0 = ap (λ (x : Told). x.number) (sym judged) ∙ ap (λ (x : Result ℕ Refusal). (told x).number) e in
+      (h, ap (λ (x : Result ℕ Refusal). (told x).count) (sym e) ∙ ap (λ (x : Told). x.count) (judged ∙ accepted_count table h))
 
 -- An accepted house's zone is a multiple of ten from 70 to 100.
 abbrev pub Zone : ℕ → Type 0

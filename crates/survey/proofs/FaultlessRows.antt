@@ -3,10 +3,10 @@ use Rattle.std.proofs.Common.{◌≡◌, refl, subst, Bool, true, false, cond, �
 use Rattle.answer.specs.Told.{row_out_of_order}
 use Rattle.answer.specs.First.{first}
 use Rattle.answer.proofs.Places.{before_first, first_none}
-use Rattle.survey.specs.declared.fault.Fault.{Fault}
 use Rattle.survey.specs.Table.{cell, storeys}
-use Rattle.survey.specs.Ranges.{Range, lows, highs, house_columns}
-use Rattle.survey.specs.Judgement.{fault, none, ◌then◌, test, outside, leftmost, wrong_column, columns_fault, house_fault}
+use Rattle.survey.specs.declared.ranges.Range.{Range}
+use Rattle.survey.specs.Ranges.{lows, highs, house_columns}
+use Rattle.survey.specs.Judgement.{Fault, fault, none, ◌then◌, test, outside, leftmost, wrong_column, columns_fault, house_fault}
 use Rattle.survey.specs.Acceptance.{Inside}
 use Rattle.survey.proofs.Faults.{inside}
 use Rattle.survey.proofs.RowFaults.{column_none}
@@ -52,7 +52,7 @@ unfolding leftmost
 inside_columns due ranges table row few within-ranges =
     let low = lows ranges in
     let high = highs ranges in
-    let none_outside = first_none (outside low high table row) 8 (λ k l. inside low high table row k refl (within-ranges k l).0 (within-ranges k l).1) in
+    let none_outside = first_none (outside low high table row) 8 (λ k l. inside low high table row k (within-ranges k l).0 (within-ranges k l).1) in
     rw none_outside (column_none due 8 few (le_refl 8))
 
 -- A house row without a fault has one to three storeys.

@@ -1,18 +1,39 @@
 -- The laws of faults: the first of two tests, and a test by what it asks. Assumes nothing.
-use Rattle.std.proofs.Common.{◌≡◌, Bool, true, false, List, ℕ, ◌<◌, ◌≤◌, le_refl, get_or, lt-ltb, le-ltb}
-use Rattle.survey.specs.declared.fault.Fault.{Fault}
+use Rattle.std.proofs.Common.{Result, Err, lit<, ◌≡◌, Bool, true, false, List, ℕ, ◌<◌, ◌≤◌, get_or, lt-ltb, le-ltb}
+use Rattle.answer.specs.declared.refusal.Reason.{Reason}
+use Rattle.answer.specs.declared.refusal.Reason.TheVariants.{SheetLength, Misprint, RowOutOfOrder, OutOfRange, TooManyWalls, EndsExceedStorey, MarkOnAbsentPart, NoParts, LentSpaceShort, NoSuchDay, DatesOutOfOrder}
+use Rattle.answer.specs.Told.{number_of}
+use Rattle.answer.specs.declared.refusal.Refusal.{Refusal}
 use Rattle.survey.specs.Table.{cell}
-use Rattle.survey.specs.Judgement.{none, faulty, ◌then◌, test, outside}
+use Rattle.survey.specs.Judgement.{Fault, fault_told, none, faulty, ◌then◌, test, outside}
+
+-- Every reason has a number from 1 on, so that a fault is told from none by its number.
+pub number_some : (reason : Reason) → 0 < number_of reason
+number_some SheetLength = lit< tt
+number_some Misprint = lit< tt
+number_some RowOutOfOrder = lit< tt
+number_some OutOfRange = lit< tt
+number_some TooManyWalls = lit< tt
+number_some EndsExceedStorey = lit< tt
+number_some MarkOnAbsentPart = lit< tt
+number_some NoParts = lit< tt
+number_some LentSpaceShort = lit< tt
+number_some NoSuchDay = lit< tt
+number_some DatesOutOfOrder = lit< tt
 
 -- A fault that the earlier test found.
 pub found : {f : Fault} (earlier later : Fault) → f ≡ earlier → 0 < f.number → f ≡ earlier then later
 unfolding ◌then◌
 found {f} earlier later e h = rw (← e, lt-ltb 0 f.number h)
 
+pub error_found : {tested : Result (Unit {0}) Refusal} (r : Refusal) (earlier later : Fault) → tested ≡ Err r → fault_told (Err r) ≡ earlier
+    → fault_told tested ≡ earlier then later
+error_found r earlier later is e = rw is (found earlier later e (number_some r.reason))
+
 -- The earlier test found none.
-pub passed : {f g : Fault} (earlier later : Fault) → f ≡ earlier → f.number ≤ 0 → g ≡ later → g ≡ earlier then later
+pub passed : {f : Fault} (earlier later : Fault) → none ≡ earlier → f ≡ later → f ≡ earlier then later
 unfolding ◌then◌
-passed {f} earlier later e h g = rw (← e, le-ltb 0 f.number h) g
+passed earlier later e f = rw (← e) f
 
 pub held : {holds : Bool} (f : Fault) → holds ≡ true → f ≡ test holds f
 unfolding test
@@ -31,19 +52,11 @@ pub test_finds : {holds : Bool} (f later : Fault) → holds ≡ true → 0 < f.n
 test_finds f later e h = found (test _ f) later (held f e) h
 
 pub test_passes : {holds : Bool} {g : Fault} (f later : Fault) → holds ≡ false → g ≡ later → g ≡ test holds f then later
-test_passes f later e g = passed (test _ f) later (clear f e) (le_refl 0) g
+test_passes f later e g = passed (test _ f) later (clear f e) g
 
--- A number against its column's range.
-module _ (low high table : List ℕ) (row column : ℕ) {number : ℕ} (e : number ≡ cell table row column) where
-  pub too_low : number < get_or low column 0 → outside low high table row column ≡ true
-  unfolding outside
-  too_low h = rw (← e, lt-ltb number (get_or low column 0) h)
-
-  module _ (least : get_or low column 0 ≤ number) where
-    pub too_high : get_or high column 0 < number → outside low high table row column ≡ true
-    unfolding outside
-    too_high h = rw (← e, le-ltb number (get_or low column 0) least, lt-ltb (get_or high column 0) number h)
-
-    pub inside : number ≤ get_or high column 0 → outside low high table row column ≡ false
-    unfolding outside
-    inside h = rw (← e, le-ltb number (get_or low column 0) least, le-ltb (get_or high column 0) number h)
+-- A number in its column's range.
+pub inside : (low high table : List ℕ) (row column : ℕ) → get_or low column 0 ≤ cell table row column → cell table row column ≤ get_or high column 0
+    → outside low high table row column ≡ false
+unfolding outside
+inside low high table row column least most =
+    rw (le-ltb (cell table row column) (get_or low column 0) least, le-ltb (get_or high column 0) (cell table row column) most)

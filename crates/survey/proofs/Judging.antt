@@ -1,20 +1,23 @@
 -- What judging a table answers, case by case in the order of its tests. Assumes nothing.
-use Rattle.std.proofs.Common.{◌≡◌, false, List, ℕ, ◌+◌, ◌<◌, ◌≤◌, le_refl, arith, eqb, length, below_none, below_more, eq-eqb, ne_eqb, lt-ltb, le-ltb}
-use Rattle.answer.specs.Told.{counted, refusal, sheet_length, row_out_of_order}
+use Rattle.std.proofs.Common.{◌∙◌, Result, IfErr, Err, ◌≡◌, false, List, ℕ, ◌+◌, ◌<◌, ◌≤◌, le_refl, arith, eqb, length, below_none, below_more, ne_eqb, lt-ltb, le-ltb}
+use Rattle.answer.specs.Told.{told, counted, refusal, sheet_length, row_out_of_order}
 use Rattle.answer.specs.First.{first}
 use Rattle.answer.specs.Length.{rows_in, Whole}
 use Rattle.answer.proofs.Lengths.{rows_counted}
 use Rattle.answer.proofs.Places.{first_is, first_none}
-use Rattle.survey.specs.declared.fault.Fault.{Fault}
+use Rattle.answer.specs.declared.refusal.Reason.TheVariants.{RowOutOfOrder}
+use Rattle.answer.specs.declared.refusal.Refusal.{Refusal}
+use Rattle.survey.specs.declared.row.Table.{Table}
+use Rattle.survey.specs.declared.row.Row.{Row}
 use Rattle.survey.specs.Table.{rows_due}
-use Rattle.survey.specs.Judgement.{faulty, row_fault, judging}
+use Rattle.survey.specs.Judgement.{Fault, fault_told, none, faulty, row_fault, judging}
 use Rattle.survey.specs.Internal.{JudgedTo}
-use Rattle.survey.proofs.Faults.{not_faulty}
+use Rattle.survey.proofs.Faults.{number_some, not_faulty}
 
 -- Nothing lent, a row cut off, or too many rows.
-pub judging_length : (table : List ℕ) {rows : ℕ} → rows ≡ rows_in 8 (length table) → rows ≡ 0 → refusal sheet_length 0 0 ≡ judging table
+pub judging_length : (table : List ℕ) → rows_in 8 (length table) ≡ 0 → refusal sheet_length 0 0 ≡ judging table
 unfolding judging
-judging_length table {rows} so_many none = rw (← so_many, eq-eqb rows 0 none)
+judging_length table none = rw (none)
 
 -- Else judging begins at the house's row.
 pub judging_begins : {table : List ℕ} {rows : ℕ} → Whole 8 (length table) rows → JudgedTo table rows 0
@@ -54,3 +57,22 @@ module _ {table : List ℕ} {rows row : ℕ} (judged : JudgedTo table rows row) 
     pub judging_accepted : rows_due table ≤ row → counted rows ≡ judging table
     unfolding judging
     judging_accepted h = rw (← so_many, some, no_fault, le-ltb rows rows (le_refl rows), le-ltb rows (rows_due table) (omega arith))
+
+-- As the code's tests answer: the refusal of a row that is missing is judging's,
+module _ (self : Table) {at : ℕ} (judged : JudgedTo self.numbers.now self.rows at) where
+  pub row_missing : {A : Type 0} {answer : Result A Refusal} (r : Refusal) → answer ≡ Err r → at < rows_due self.numbers.now
+      → (at ≡ self.rows) × (r ≡ record { reason = RowOutOfOrder; row = at + 1; column = 1 }) → IfErr answer (λ r. told (Err r) ≡ judging self.numbers.now)
+  row_missing r is due missing = rw (is, missing.1) (judging_short judged missing.0 due)
+
+  -- and so is a row's, and where there is none the next row is reached.
+  module _ (row : Row) (test : List ℕ → ℕ → Fault) (stands : (row.table ≡ self) × (row.at ≡ at)) (due : test self.numbers.now at ≡ row_fault self.numbers.now at) where
+    inside : at < self.rows
+    inside = rw stands.0 at (rw stands.1 at row.stands)
+
+    pub row_refused : {A : Type 0} {answer : Result A Refusal} (r : Refusal) → answer ≡ Err r → fault_told (Err r) ≡ test row.table.numbers.now row.at
+        → r.row ≡ row.at + 1 → IfErr answer (λ r. told (Err r) ≡ judging self.numbers.now)
+    row_refused r is fault place =
+        rw (is, rw stands.1 at place) (judging_fault judged inside (rw (stands.0, stands.1) at fault ∙ due) (number_some r.reason))
+
+    pub row_passed : none ≡ test row.table.numbers.now row.at → JudgedTo self.numbers.now self.rows (at + 1)
+    row_passed clear = judging_goes_on judged inside (rw (stands.0, stands.1) at clear ∙ due) (le_refl 0)

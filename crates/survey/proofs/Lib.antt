@@ -1,5 +1,6 @@
 -- The laws about a table's rows that other crates cite, and the theorems.
 pub mod Faults
+pub mod FirstInRange
 pub mod Positions
 pub mod RowFaults
 pub mod Judging

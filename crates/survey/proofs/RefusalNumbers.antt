@@ -6,9 +6,8 @@ use Rattle.answer.specs.First.{first}
 use Rattle.answer.specs.Length.{rows_in}
 use Rattle.answer.proofs.Refusals.{ByNumber, either_by_number}
 use Rattle.answer.proofs.Places.{at_first}
-use Rattle.survey.specs.declared.fault.Fault.{Fault}
 use Rattle.survey.specs.Table.{rows_due}
-use Rattle.survey.specs.Judgement.{fault, faulty, ◌then◌, test, wrong_column, house_fault, storey_fault, ends_fault, wall_fault, parts_fault, days_fault, order_fault, dates_fault, row_fault, judging}
+use Rattle.survey.specs.Judgement.{Fault, fault, faulty, ◌then◌, test, wrong_column, house_fault, storey_fault, ends_fault, wall_fault, parts_fault, days_fault, order_fault, dates_fault, row_fault, judging}
 
 -- One of those numbers, and a fault of one of them, or none.
 abbrev tellable : ℕ → Bool

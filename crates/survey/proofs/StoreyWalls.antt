@@ -6,13 +6,13 @@ use borrow.Author.Tests.{not-true, not-false}
 use Rattle.answer.specs.Length.{most_walls}
 use Rattle.answer.proofs.Parts.{lent_part, part_size, part_element}
 use Rattle.answer.proofs.Places.{before_first, at_first, first_most}
-use Rattle.survey.specs.Table.{cell, is_wall, storeys, first_wall, parts_row, rows_due}
+use Rattle.survey.specs.Table.{cell, is_wall, storeys, first_wall, parts_row}
 use Rattle.survey.specs.Judgement.{judging}
 use Rattle.survey.specs.Walls.{rows_from, rows_where, is_wall_of, storey_walls, run_start, run_length, storey_run}
 use Rattle.survey.specs.Acceptance.{Accepted}
 use Rattle.survey.proofs.Positions.{by_place_lem}
 use Rattle.survey.proofs.RefusalNumbers.{judging_accepts, judging_refuses}
-use Rattle.survey.proofs.Acceptance.{accepted}
+use Rattle.survey.proofs.Acceptance.{accepted, judge_refused, judge_accepted}
 
 -- Rows as the code lends them, from a start to an end.
 pub rows_lent : (table : List ℕ) (row count : ℕ) → take (8 * row + 8 * count - 8 * row) (drop (8 * row) table) ≡ rows_from table row count
@@ -50,7 +50,7 @@ module _ (test : ℕ → Bool) (table : List ℕ) (row : ℕ) where
   where_all (suc n) h =
       rw (add-suc, h n (omega arith), where_all n (λ k l. h k (omega arith)), append_assoc, rows_more table row n)
 
--- What is shown of a storey: so many rows from a row on, each of them a wall of that storey, and no other row is one.
+-- What is shown of a storey: so many rows from a row on, each of them a wall of that storey.
 pub record Shown (table : List ℕ) (storey : ℕ) : Type 0 where
   pub start : ℕ
   pub count : ℕ
@@ -58,7 +58,6 @@ pub record Shown (table : List ℕ) (storey : ℕ) : Type 0 where
   pub fits : 8 * start + 8 * count ≤ length table
   pub few : count ≤ most_walls
   pub each : (k : ℕ) → k < count → (first_wall table ≤ start + k) × (start + k < parts_row table) × (cell table (start + k) 1 ≡ storey)
-  pub no_other : (row : ℕ) → row < rows_due table → is_wall_of table storey row ≡ true → (start ≤ row) × (row < start + count)
 
 module _ (table : List ℕ) (h : (judging table).number ≡ 0) where
   a : Accepted table
@@ -177,17 +176,6 @@ module _ (table : List ℕ) (h : (judging table).number ≡ 0) where
             omega (arith, head.0, last.1, a.few)
         go (no l) = omega arith
 
-    -- A wall of the storey lies in the run.
-    run_holds : (row : ℕ) → row < rows → taken row ≡ true → (start ≤ row) × (row < start + count)
-    run_holds row l e = go (dec_lt row start) (dec_lt row (start + count))
-      where
-        go : Dec (row < start) → Dec (row < start + count) → (start ≤ row) × (row < start + count)
-        go (yes p) _ = absurd (subst T (sym e ∙ before_run row p) tt)
-        go (no p) (yes q) = (omega arith, q)
-        go (no p) (no q) =
-            let later : start + count + (row - (start + count)) ≡ row = omega arith in
-            absurd (subst T (sym e ∙ (rw later at (after_run (row - (start + count)) (rw later l)))) tt)
-
     pub shown : Shown table storey
     unfolding storey_run
     shown = record {
@@ -197,7 +185,6 @@ module _ (table : List ℕ) (h : (judging table).number ≡ 0) where
       fits = omega (arith, count_most);
       few = run_few;
       each = λ k l. taken_is (start + k) (omega (arith, count_most)) (in_run k l);
-      no_other = λ row l e. run_holds row (omega (arith, a.sizes)) e;
     }
 
     -- A house that lacks the storey shows nothing of it.
@@ -226,3 +213,8 @@ run_start_most table storey = first_most (is_wall_of table storey) (length table
 pub run_length_most : (table : List ℕ) (storey start : ℕ) → run_length table storey start ≤ length table / 8 - start
 unfolding run_length
 run_length_most table storey start = first_most (λ k. not (is_wall_of table storey (start + k))) (length table / 8 - start)
+
+-- For the code that shows a run, and a storey's walls.
+pub ruleset run_lent = (run_start_most, run_length_most, rows_lent)
+
+pub ruleset walls_shown = (walls_refused, run_is_walls, judge_refused, judge_accepted)

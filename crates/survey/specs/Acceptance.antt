@@ -4,7 +4,8 @@ use Rattle.std.specs.Prelude.{◌≡◌, true, List, ℕ, ◌+◌, ◌<◌, ◌�
 use Rattle.answer.specs.Length.{most_walls, Whole}
 use Rattle.calendar.specs.Days.{is_day}
 use Rattle.survey.specs.Table.{cell, storeys, ends_storey, first_wall, wall_rows, parts_row, dates_row, rows_due}
-use Rattle.survey.specs.Ranges.{Range, lows, highs, house_columns, storey_columns, ends_columns, wall_columns, parts_columns, dates_columns}
+use Rattle.survey.specs.declared.ranges.Range.{Range}
+use Rattle.survey.specs.Ranges.{lows, highs, house_columns, storey_columns, ends_columns, wall_columns, parts_columns, dates_columns}
 use Rattle.survey.specs.Judgement.{within}
 
 -- Every number of a row lies in its column's range.

@@ -1,5 +1,5 @@
 -- What only the code needs. No promise to callers and no theorem is stated with these.
-use Rattle.std.specs.Prelude.{◌≡◌, false, List, ℕ, ◌<◌, ◌≤◌, length}
+use Rattle.std.specs.Prelude.{◌≡◌, false, cond, List, Option, Some, None, ℕ, ◌<◌, ◌≤◌, length, ltb}
 use Rattle.answer.specs.Length.{Whole}
 use Rattle.survey.specs.Judgement.{faulty, row_fault}
 
@@ -8,3 +8,7 @@ pub record JudgedTo (table : List ℕ) (rows row : ℕ) : Type 0 where
   pub size : Whole 8 (length table) rows
   pub reached : row ≤ rows
   pub clean : (k : ℕ) → k < row → faulty (row_fault table k) ≡ false
+
+-- A place of the first n, where there is one: `first` answers n where a test holds at none.
+abbrev pub place_below : ℕ → ℕ → Option ℕ
+place_below n place = cond (ltb place n) (Some place) None

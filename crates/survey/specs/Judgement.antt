@@ -1,21 +1,31 @@
 -- Which refusal a table gets. Document 01, "What a refused sheet is told": scoring tests "1, then each row from the top for 3, 4, 5, 6,
 -- 7, 8 in that order (4 names the leftmost column; 3 and 5 name column 1)"; document 02, request 3, has 10 and 11 for the dates row.
-use Rattle.std.specs.Prelude.{ℕ, ◌+◌, ◌-◌, Bool, cond, not, ◌||◌, List, length, get_or, eqb, leb, ltb}
+use Rattle.std.specs.Prelude.{ℕ, ◌+◌, ◌-◌, Bool, cond, not, ◌||◌, List, length, get_or, eqb, leb, ltb, Result, Ok, Err}
 use Rattle.std.specs.Int.Bits.{bit_and}
-use Rattle.answer.specs.Told.{Told, counted, refusal, sheet_length, row_out_of_order, out_of_range, too_many_walls, ends_exceed_storey, mark_on_absent_part, no_parts, no_such_day, dates_out_of_order}
+use Rattle.answer.specs.Told.{Told, number_of, counted, refusal, sheet_length, row_out_of_order, out_of_range, too_many_walls, ends_exceed_storey, mark_on_absent_part, no_parts, no_such_day, dates_out_of_order}
 use Rattle.answer.specs.First.{first}
 use Rattle.answer.specs.Length.{most_walls, rows_in}
 use Rattle.calendar.specs.Days.{is_day}
 use Rattle.survey.specs.Table.{cell, storeys, ends_storey, first_wall, parts_row, dates_row, rows_due}
-use Rattle.survey.specs.Ranges.{Range, lows, highs, house_columns, storey_columns, ends_columns, wall_columns, parts_columns, dates_columns}
-use Rattle.survey.specs.declared.fault.Fault.{Fault}
+use Rattle.survey.specs.declared.ranges.Range.{Range}
+use Rattle.survey.specs.Ranges.{lows, highs, house_columns, storey_columns, ends_columns, wall_columns, parts_columns, dates_columns}
+use Rattle.answer.specs.declared.refusal.Refusal.{Refusal}
 
 -- A row's fault: a refusal's number and column, from 1; number 0 where the row has none.
+pub record Fault : Type 0 where
+  pub number : ℕ
+  pub column : ℕ
+
 abbrev pub fault : ℕ → ℕ → Fault
 fault number column = record { number = number; column = column }
 
 abbrev pub none : Fault
 none = fault 0 0
+
+-- What the code's test of a row tells of the row.
+abbrev pub fault_told : Result (Unit {0}) Refusal → Fault
+fault_told (Ok _) = none
+fault_told (Err refused) = fault (number_of refused.reason) refused.column
 
 abbrev pub faulty : Fault → Bool
 faulty f = ltb 0 f.number

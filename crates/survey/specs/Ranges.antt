@@ -1,12 +1,9 @@
 -- What a row's columns may hold. Document 01, "The sheet and the table". Each kind of row is a list with a line for each column, the kind first.
 use Rattle.std.specs.Prelude.{ℕ, Bool, cond, ◌||◌, List, [], ◌∷◌, map, eqb}
+use Rattle.survey.specs.declared.ranges.Range.{Range}
 use Rattle.survey.specs.Table.{cell, storeys, ends_storey, ends_direction}
 
--- The numbers that a column may hold.
-pub record Range : Type 0 where
-  pub low : ℕ
-  pub high : ℕ
-
+-- The numbers that a column may hold: a record of the least, `low`, and the greatest, `high`.
 infix 70 ◌to◌
 abbrev pub ◌to◌ : ℕ → ℕ → Range
 low to high = record { low = low; high = high }

@@ -8,14 +8,17 @@
 #![tactic(auto)]
 
 pub mod columns;
-mod fault;
 mod judgement;
+mod kind;
 mod places;
+mod ranges;
+mod row;
 mod rows;
 mod table;
 mod walls;
 
 pub use judgement::judge;
+pub use kind::RowKind;
 pub use places::{dates_row, parts_row};
 pub use table::cell;
 pub use walls::{storey_run, storey_walls};

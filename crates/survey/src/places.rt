@@ -11,11 +11,11 @@ fn after_walls(table: &[u32]) -> usize
     ensures row { result ≡ parts_row table.now }
     ensures most { result ≤ 4_611_686_018_427_387_904 }
 {
-    let mut row = 3 * (cell(table, 0, STOREYS) as usize) + 1;
-    while is_wall(table, row) {
-        row += 1;
-    }
-    row
+    let first = 3 * (cell(table, 0, STOREYS) as usize) + 1;
+    let walls = (first..first + table.len())
+        .take_while(|&row| is_wall(table, row))
+        .count();
+    first + walls
 }
 
 // The row after the walls, from 0, where the parts are due. Any table will do: where the table ends before

@@ -3,6 +3,7 @@ ghost use Rattle.std.specs.Prelude.{◌≡◌};
 ghost use Rattle.survey.specs.Table.{cell, is_wall};
 
 use crate::columns::KIND;
+use crate::kind::RowKind;
 use answer::ROW;
 
 // The number in any row and column, both from 0; 0 beyond the table.
@@ -26,10 +27,8 @@ fn any_cell(table: &[u32], row: usize, column: usize) -> u32
 pub fn cell(table: &[u32], row: usize, column: usize) -> u32
     ensures { result ≡ cell table.now row column }
 {
-    if row < table.len() / ROW {
-        if column < ROW {
-            return table[ROW * row + column];
-        }
+    if row < table.len() / ROW && column < ROW {
+        return table[ROW * row + column];
     }
     any_cell(table, row, column)
 }
@@ -38,5 +37,5 @@ pub fn cell(table: &[u32], row: usize, column: usize) -> u32
 pub(crate) fn is_wall(table: &[u32], row: usize) -> bool
     ensures { result ≡ is_wall table.now row }
 {
-    cell(table, row, KIND) == 4
+    cell(table, row, KIND) == RowKind::Wall as u32
 }

@@ -5,31 +5,25 @@ ghost use Rattle.survey.specs.Walls.{is_wall_of, storey_walls, run_start, run_le
 use crate::columns::STOREY;
 use crate::judgement::judge;
 use crate::table::{cell, is_wall};
-use answer::{Answer, ROW};
+use answer::ROW;
 
 // Whether a row is a wall of a storey.
+#[tactic(auto, unfolding(crate::specs::Walls::is_wall_of))]
 fn is_wall_of(table: &[u32], storey: u32, row: usize) -> bool
     ensures { result ≡ is_wall_of table.now storey row }
 {
-    if !is_wall(table, row) {
-        return false;
-    }
-    cell(table, row, STOREY) == storey
+    is_wall(table, row) && cell(table, row, STOREY) == storey
 }
 
-// The first row that is a wall of a storey, or the count of rows.
+// The first row that is a wall of a storey, or the count of rows: an empty run then starts there, so no
+// caller needs an `Option`.
 fn run_start(table: &[u32], storey: u32) -> usize
     ensures { result ≡ run_start table.now storey }
 {
     let rows = table.len() / ROW;
-    let mut row = 0;
-    while row < rows {
-        if is_wall_of(table, storey, row) {
-            return row;
-        }
-        row += 1;
-    }
-    row
+    (0..rows)
+        .position(|row| is_wall_of(table, storey, row))
+        .unwrap_or(rows)
 }
 
 // How many walls of a storey follow each other from a row on.
@@ -37,19 +31,14 @@ fn run_length(table: &[u32], storey: u32, start: usize) -> usize
     requires { start ≤ length table.now / 8 }
     ensures { result ≡ run_length table.now storey start }
 {
-    let rows = table.len() / ROW - start;
-    let mut count = 0;
-    while count < rows {
-        if !is_wall_of(table, storey, start + count) {
-            return count;
-        }
-        count += 1;
-    }
-    count
+    (start..table.len() / ROW)
+        .take_while(|&row| is_wall_of(table, storey, row))
+        .count()
 }
 
 // The first unbroken run of a storey's wall rows, in any table. In a table that is accepted these are all
 // the walls of the storey, so a caller that has judged the table already need not have it judged again.
+#[tactic(auto, using(crate::proofs::StoreyWalls::run_lent), unfolding(crate::specs::Walls::storey_run))]
 pub fn storey_run(table: &[u32], storey: u32) -> &[u32]
     ensures { result.now ≡ storey_run table.now storey }
 {
@@ -61,11 +50,12 @@ pub fn storey_run(table: &[u32], storey: u32) -> &[u32]
 }
 
 // A storey's walls in their order; none where the table is refused or the house lacks the storey.
+#[tactic(auto, using(crate::proofs::StoreyWalls::walls_shown))]
 pub fn storey_walls(table: &[u32], storey: u32) -> &[u32]
     ensures { result.now ≡ storey_walls table.now storey }
 {
     match judge(table) {
-        Answer::Refused { .. } => &table[0..0],
-        Answer::Count(_) => storey_run(table, storey),
+        Err(_) => &table[0..0],
+        Ok(_) => storey_run(table, storey),
     }
 }

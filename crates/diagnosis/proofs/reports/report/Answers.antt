@@ -1,30 +1,19 @@
 -- `report` meets its contract: the refusal of judging, or what an accepted table gets. Assumes nothing.
-use Rattle.std.proofs.Common.{◌∙◌}
-use Rattle.survey.proofs.Acceptance.{judge_accepted}
-use Rattle.diagnosis.proofs.AcceptedTables.{stands}
-use Rattle.diagnosis.proofs.Assessments.{own_printable, report_answer, report_after}
+use Rattle.std.proofs.Common.{◌≡◌, ◌∙◌, Err, rules}
+use Rattle.diagnosis.proofs.Assessments.{report_answer, report_after}
 use Rattle.diagnosis.proofs.Reporting.{report_refused}
 use Rattle.diagnosis.proofs.reports.report.Goals as goal
 
-pub assess_house-requires : goal.assess_house-requires
-assess_house-requires c = stands _ (judge_accepted _ c.judge-judged.ensures c.in-Count.is).0
+pub returns-in_err-judged : goal.returns-in_err-judged
+returns-in_err-judged c =
+    let came : c.from_residual.result ≡ Err c.in_err-judged.field-0.0 = search rules in
+    rw came (report_refused _ _ _ c.in_err-judged.ensures.refused)
 
-pub report_of-requires : goal.report_of-requires
-report_of-requires c =
-    let accepted = (judge_accepted _ c.judge-judged.ensures c.in-Count.is).0 in
-    rw c.assess_house.ensures (own_printable _ accepted)
-
-pub returns-in-Refused : goal.returns-in-Refused
-returns-in-Refused c =
-    let refused = report_refused _ _ _ c.judge-judged.ensures c.in-Refused.is in
-    record { answer = refused.0; report = refused.1 }
-
-pub returns-in-Count : goal.returns-in-Count
-returns-in-Count c =
-    let accepted = (judge_accepted _ c.judge-judged.ensures c.in-Count.is).0 in
-    let reported = c.report_of.ensures in
-    let found = c.assess_house.ensures in
-    record {
-      answer = reported.answer ∙ rw found (report_answer _ accepted _);
-      report = reported.report ∙ rw found (report_after _ accepted _);
-    }
+pub returns : goal.returns
+returns c =
+    let table = c.in_ok-judged.ensures.accepted in
+    let accepted = c.in_ok-judged.field-0.of_house.stands.accepted in
+    rw (← table) (record {
+      answer = c.report.ensures.answer ∙ report_answer _ accepted c.assess.ensures _;
+      report = c.report.ensures.report ∙ report_after _ accepted c.assess.ensures _;
+    })

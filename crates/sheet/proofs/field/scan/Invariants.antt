@@ -1,10 +1,8 @@
--- The loop of `scan`: `made` is what the first k characters make.
-use Rattle.std.proofs.Common.{◌≡◌, ◌≤◌, ◌-◌, length, take}
+-- The loop of `scan`: the number is what the characters so far make.
+use Rattle.std.proofs.Common.{◌≡◌, take}
 use Rattle.sheet.specs.Field.{field}
+use Rattle.sheet.proofs.Fields.{made}
 use Rattle.sheet.proofs.field.scan.Given as goal
 
-abbrev pub invariant-loop-k : goal.invariant-loop-k
-invariant-loop-k l = (l.k ≤ length l.characters) × (l.made ≡ field (take l.k l.characters))
-
-abbrev pub decreases-loop-k : goal.decreases-loop-k
-decreases-loop-k l = length l.characters - l.k
+abbrev pub invariant-loop-character : goal.invariant-loop-character
+invariant-loop-character l = made l.number ≡ field (take l.character-index l.characters)

@@ -7,15 +7,14 @@ use Rattle.sheet.proofs.line.print_row.Goals as goal
 
 pub loop-column-init : goal.loop-column-init
 unfolding over joined
-loop-column-init c = record { within = omega arith; printed = refl }
+loop-column-init c = refl
 
 pub loop-column-preserved : goal.loop-column-preserved
-loop-column-preserved c = record {
-  within = omega arith;
-  printed = joined_over 8 (fields c.args.row.now) (field_long c.args.row.now) _ _ _ c.loop-column.column (omega arith) c.loop-column.invariant.printed c.print.ensures;
-}
+loop-column-preserved c =
+    let row = c.args.row.now in
+    joined_over 8 (fields row) (field_long row) _ _ _ c.loop-column.column (omega arith) c.loop-column.invariant c.print.ensures
 
 pub returns : goal.returns
 returns c =
     let all : c.loop-column.column ≡ 8 = omega arith in
-    line_end c.args.row.now _ _ c.requires.bytes (rw all at c.loop-column.invariant.printed)
+    line_end c.args.row.now _ _ c.requires (rw all at c.loop-column.invariant)

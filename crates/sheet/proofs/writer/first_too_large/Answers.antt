@@ -1,20 +1,24 @@
--- `first_too_large` meets its contract: it stops at the first place, or has passed every place. Assumes nothing.
-use Rattle.std.proofs.Common.{sym, below_more, arith, lt-ltb, le-ltb}
-use Rattle.answer.proofs.Places.{first_is, first_end}
-use Rattle.sheet.specs.Sheet.{too_large}
+-- `first_too_large` meets its contract: the library's search is the definition's. Assumes nothing.
+use Rattle.std.proofs.Common.{◌≡◌, ◌∙◌, refl, ap, List, [], ◌∷◌, ℕ, suc, length, cond, not, Bool, true, false, ◌+◌, one-add, Some, None, ltb, rules, tests}
+use Rattle.std.specs.List.{position_or_len}
+use Rattle.std.proofs.lemmas.Iterator.{YieldsList-from_slice}
+use Rattle.std.proofs.lemmas.Iterator.Search.{position_from_yields_List}
+use Rattle.answer.specs.First.{first}
+use Rattle.sheet.specs.Sheet.{too_large, large_place}
 use Rattle.sheet.proofs.writer.first_too_large.Goals as goal
 
-pub loop-at-preserved : goal.loop-at-preserved
-unfolding too_large
-loop-at-preserved c = record {
-  within = omega arith;
-  before = below_more _ _ c.loop-at.invariant.before (le-ltb _ _ c.if-table-at-gt-LARGEST.false);
-}
-
-pub returns-then-table-at-gt-LARGEST : goal.returns-then-table-at-gt-LARGEST
-unfolding too_large
-returns-then-table-at-gt-LARGEST c =
-    sym (first_is _ _ _ c.loop-at-test.true c.loop-at.invariant.before (lt-ltb _ _ c.if-table-at-gt-LARGEST.true))
+large_found : (table : List ℕ) → position_or_len (ltb 99_999_999) table ≡ first (too_large table) (length table)
+unfolding first too_large
+large_found [] = refl
+large_found (n ∷ table) = rw (large_found table) (go (ltb 99_999_999 n))
+  where
+    go : (b : Bool) → cond (not b) (1 + first (too_large table) (length table)) 0 ≡ cond b 0 (suc (first (too_large table) (length table)))
+    go true = refl
+    go false = one-add (first (too_large table) (length table))
 
 pub returns : goal.returns
-returns c = first_end _ _ _ c.loop-at.invariant.within c.loop-at-test.false c.loop-at.invariant.before
+unfolding large_place
+returns c =
+    let table = c.args.table.now in
+    position_from_yields_List (ltb 99_999_999) _ _ c.position.result c.position.ensures.ran (YieldsList-from_slice table cc) (λ x b q k. search (rules, tests))
+    ∙ ap (λ (at : ℕ). cond (ltb at (length table)) (Some at) None) (large_found table)

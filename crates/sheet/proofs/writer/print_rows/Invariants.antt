@@ -1,11 +1,8 @@
 -- The loop of `print_rows`: the rows before `row` are printed over the front of the bytes.
-use Rattle.std.proofs.Common.{◌-◌, ◌≡◌, ◌≤◌}
+use Rattle.std.proofs.Common.{◌≡◌}
 use Rattle.answer.specs.Lists.{over}
 use Rattle.sheet.specs.Sheet.{lines_of}
 use Rattle.sheet.proofs.writer.print_rows.Given as goal
 
 abbrev pub invariant-loop-row : goal.invariant-loop-row
-invariant-loop-row l = record { within : l.row ≤ l.rows; printed : l.sheet ≡ over l.initial.sheet (lines_of l.row l.table) }
-
-abbrev pub decreases-loop-row : goal.decreases-loop-row
-decreases-loop-row l = l.rows - l.row
+invariant-loop-row l = l.sheet ≡ over l.fn.sheet (lines_of l.row l.table)

@@ -1,37 +1,28 @@
 -- `survey::judgement::judge` meets its contract. Assumes nothing.
-use Rattle.std.proofs.Common.{◌∙◌, arith}
-use Rattle.answer.proofs.Lengths.{rows_whole}
+use Rattle.std.proofs.Common.{◌≡◌, Err, ◌∙◌, le_refl, rules}
+use Rattle.answer.proofs.Lengths.{refused_whole, counted_whole}
 use Rattle.survey.proofs.RowFaults.{row_house}
-use Rattle.survey.proofs.FaultlessRows.{house_storeys}
-use Rattle.survey.proofs.Judging.{judging_length, judging_begins, judging_fault, judging_goes_on, judging_short}
+use Rattle.survey.proofs.Judging.{judging_length, judging_begins, judging_fault, judging_goes_on}
+use Rattle.survey.proofs.Faults.{number_some}
 use Rattle.survey.proofs.judgement.judge.Goals as goal
 
-pub returns-then-rows-eq0 : goal.returns-then-rows-eq0
-returns-then-rows-eq0 c = judging_length _ c.rows_in-rows.ensures c.if-rows-eq0.true
+pub returns-in_err-rows : goal.returns-in_err-rows
+returns-in_err-rows c =
+    let came : c.from_residual.result ≡ Err c.in_err-rows.field-0.0 = search rules in
+    let none = refused_whole 8 _ c.in_err-rows.ensures in
+    rw (came, none.0) (judging_length _ none.1)
 
-pub house_fault-house-requires : goal.house_fault-house-requires
-house_fault-house-requires c = omega (arith, rows_whole _ _ c.rows_in-rows.ensures c.if-rows-eq0.false)
+pub invariant_of-table : goal.invariant_of-table
+invariant_of-table c = record { whole = (counted_whole 8 _ c.in_ok-rows.ensures).1; of_house = c.cell.ensures }
 
-pub returns-then-house-gt0 : goal.returns-then-house-gt0
-returns-then-house-gt0 c =
-    let size = rows_whole _ _ c.rows_in-rows.ensures c.if-rows-eq0.false in
-    c.refused.ensures ∙ judging_fault (judging_begins size) size.some (c.house_fault-house.ensures ∙ row_house _) c.if-house-gt0.true
+pub returns-in_err-check_house : goal.returns-in_err-check_house
+returns-in_err-check_house c =
+    let size = (counted_whole 8 _ c.in_ok-rows.ensures).1 in
+    let came : c.from_residual-in_err-check_house.result ≡ Err c.in_err-check_house.field-0.0 = search rules in
+    rw (came, c.in_err-check_house.ensures.row)
+    (judging_fault (judging_begins size) size.some (c.in_err-check_house.ensures.fault ∙ row_house _) (number_some _))
 
-pub loop-row-init : goal.loop-row-init
-loop-row-init c =
-    let clean = c.if-house-gt0.false in
-    let size = rows_whole _ _ c.rows_in-rows.ensures c.if-rows-eq0.false in
-    let few = house_storeys c.args.table.now (rw (← c.house_fault-house.ensures) clean) in (
-      judging_goes_on (judging_begins size) size.some (c.house_fault-house.ensures ∙ row_house _) clean,
-      c.cell-storeys.ensures,
-      omega (arith, few, c.cell-storeys.ensures),
-      omega arith,
-      omega arith,
-    )
-
-pub returns-then-row-rows : goal.returns-then-row-rows
-returns-then-row-rows c = c.out_of_order.ensures ∙ judging_short c.loop-row.invariant.0 c.if-row-rows.true (omega arith)
-
-pub returns-then-found-gt0 : goal.returns-then-found-gt0
-returns-then-found-gt0 c =
-    c.refused-then-found-gt0.ensures ∙ judging_fault c.loop-row.invariant.0 (omega arith) c.fault_before_walls-found.ensures c.if-found-gt0.true
+pub check_storeys_and_ends-requires : goal.check_storeys_and_ends-requires
+check_storeys_and_ends-requires c =
+    let size = (counted_whole 8 _ c.in_ok-rows.ensures).1 in
+    judging_goes_on (judging_begins size) size.some (c.in_ok-check_house.ensures.fault ∙ row_house _) (le_refl 0)

@@ -1,16 +1,17 @@
--- `survey::places::after_walls` meets its contract: a wall lies before the parts row, and the first row that is none is that row. Assumes nothing.
-use Rattle.std.proofs.Common.{sym, arith}
-use Rattle.survey.proofs.Positions.{wall_within, wall_before_parts, parts_row_here}
+-- `survey::places::after_walls` meets its contract: the first row from the first wall on that is no wall is the parts row. Assumes nothing.
+use Rattle.std.proofs.Common.{ℕ, Bool, ◌+◌, ◌*◌, ◌∙◌, refl, length, rules, tests, arith}
+use Rattle.std.proofs.lemmas.Iterator.{YieldsList-from_range}
+use Rattle.std.proofs.lemmas.Iterator.Search.{YieldsList-from_take_while}
+use Rattle.std.proofs.lemmas.Iterator.Consumers.{count_from_yields_List}
+use Rattle.survey.specs.Table.{is_wall, wall_rows}
+use Rattle.survey.proofs.FirstInRange.{prefix_count}
 use Rattle.survey.proofs.places.after_walls.Goals as goal
 
-pub loop-row-preserved : goal.loop-row-preserved
-loop-row-preserved c =
-    let at_loop = c.loop-row in
-    let wall = sym c.loop-row-test.ensures in
-    let within = wall_within c.args.table.now at_loop.row wall in
-    let before = wall_before_parts c.args.table.now at_loop.row at_loop.invariant.past at_loop.invariant.reached wall in
-    record { past = omega arith; reached = omega arith; most = omega arith }
-
 pub returns-clause-row : goal.returns-clause-row
+unfolding wall_rows
 returns-clause-row c =
-    parts_row_here c.args.table.now _ c.loop-row.invariant.past c.loop-row.invariant.reached (sym c.loop-row-test.ensures)
+    let start = 3 * c.cell.result + 1 in
+    let count = length c.args.table.now in
+    let test : ℕ → Bool = λ row. is_wall c.args.table.now row in
+    let counted = count_from_yields_List c.take_while.result c.count-walls.result c.count-walls.ensures.ran (YieldsList-from_take_while _ test (YieldsList-from_range start (start + count) count c.take_while.ensures.source (omega arith)) c.take_while.ensures.closure c.take_while.ensures.done (λ x b q k. search (rules, tests))) in
+    rw (counted ∙ prefix_count test start count, c.cell.ensures) refl

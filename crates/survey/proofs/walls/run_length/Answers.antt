@@ -1,14 +1,17 @@
 -- `survey::walls::run_length` meets its contract. Assumes nothing.
-use Rattle.std.proofs.Common.{sym}
-use Rattle.answer.proofs.Places.{first_is, first_end}
-use Rattle.survey.specs.Walls.{run_length}
+use Rattle.std.proofs.Common.{◌-◌, ◌/◌, ◌∙◌, refl, length, rules, tests}
+use Rattle.std.proofs.lemmas.Iterator.{YieldsList-from_range}
+use Rattle.std.proofs.lemmas.Iterator.Search.{YieldsList-from_take_while}
+use Rattle.std.proofs.lemmas.Iterator.Consumers.{count_from_yields_List}
+use Rattle.survey.specs.Walls.{run_length, is_wall_of}
+use Rattle.survey.proofs.FirstInRange.{prefix_count}
 use Rattle.survey.proofs.walls.run_length.Goals as goal
-
-pub returns-then-not-is_wall_of : goal.returns-then-not-is_wall_of
-unfolding run_length
-returns-then-not-is_wall_of c =
-    sym (first_is _ _ _ c.loop-count-test.true c.loop-count.invariant.each (rw (← c.if-not-is_wall_of.ensures)))
 
 pub returns : goal.returns
 unfolding run_length
-returns c = first_end _ _ _ c.loop-count.invariant.within c.loop-count-test.false c.loop-count.invariant.each
+returns c =
+    let start = c.args.start in
+    let rows = length c.args.table.now / 8 in
+    let test = is_wall_of c.args.table.now c.args.storey in
+    let counted = count_from_yields_List c.take_while.result c.count.result c.count.ensures.ran (YieldsList-from_take_while _ test (YieldsList-from_range start rows (rows - start) c.take_while.ensures.source refl) c.take_while.ensures.closure c.take_while.ensures.done (λ x b q k. search (rules, tests))) in
+    counted ∙ prefix_count test start (rows - start)

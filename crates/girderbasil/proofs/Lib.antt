@@ -1,2 +1,0 @@
--- The laws about answers that cross to a host.
-pub mod HostAnswers

@@ -1,0 +1,175 @@
+// The numbers that a column may hold, and the columns of each kind of row, as specs/Ranges.antt has them.
+ghost use Rattle.std.specs.Prelude.{◌≡◌, ◌<◌};
+ghost use Rattle.survey.specs.Table.{storeys, ends_storey};
+ghost use Rattle.survey.specs.Ranges.{◌to◌, exactly, zone, is_opening, solid, house_columns, storey_columns, ends_columns, wall_columns, parts_columns, dates_columns};
+
+use crate::columns::{WALL_TYPE, ZONE};
+use crate::kind::RowKind;
+use crate::row::Row;
+
+// From `low` to `high`, both included.
+#[derive(Clone, Copy, Debug, PartialEq, Eq)]
+pub struct Range {
+    pub low: u32,
+    pub high: u32,
+}
+
+// The first day that a dates row may hold, and the last.
+const ANY_DAY: Range = Range {
+    low: 19_000_101,
+    high: 21_991_231,
+};
+
+impl Range {
+    pub const UNUSED: Range = Range { low: 0, high: 0 };
+
+    pub fn new(low: u32, high: u32) -> Self
+        ensures { result ≡ low to high }
+    {
+        Range { low, high }
+    }
+
+    pub fn exactly(number: u32) -> Self
+        ensures { result ≡ exactly number }
+    {
+        Range::new(number, number)
+    }
+}
+
+// The zone of that number; 100 where no zone has it.
+#[tactic(auto, unfolding(crate::specs::Ranges::zone))]
+fn zone(number: u32) -> u32
+    ensures { result ≡ zone number }
+{
+    match number {
+        70 | 80 | 90 => number,
+        _ => 100,
+    }
+}
+
+// Whether a wall's type is a window or a full-height opening.
+fn is_opening(number: u32) -> bool
+    ensures { result ≡ is_opening number }
+{
+    matches!(number, 2 | 3)
+}
+
+// A storey's row.
+pub fn storey_columns(number: u32) -> [Range; 8]
+    ensures { result ≡ storey_columns number }
+{
+    [
+        Range::exactly(RowKind::Storey as u32),
+        Range::exactly(number),
+        Range::new(1, 50_000),
+        Range::new(500, 50_000),
+        Range::new(1, 3),
+        Range::new(0, 1),
+        Range::UNUSED,
+        Range::UNUSED,
+    ]
+}
+
+// The parts row.
+pub fn parts_columns() -> [Range; 8]
+    ensures { result ≡ parts_columns }
+{
+    [
+        Range::exactly(RowKind::Parts as u32),
+        Range::new(0, 8_191),
+        Range::new(0, 8_191),
+        Range::new(0, 1),
+        Range::UNUSED,
+        Range::UNUSED,
+        Range::UNUSED,
+        Range::UNUSED,
+    ]
+}
+
+// The dates row.
+pub fn dates_columns() -> [Range; 8]
+    ensures { result ≡ dates_columns }
+{
+    [
+        Range::exactly(RowKind::Dates as u32),
+        ANY_DAY,
+        ANY_DAY,
+        ANY_DAY,
+        Range::UNUSED,
+        Range::UNUSED,
+        Range::UNUSED,
+        Range::UNUSED,
+    ]
+}
+
+// Rows whose ranges hang on other numbers of the table.
+impl Row<'_> {
+    pub fn house_columns(&self) -> [Range; 8]
+        requires { self.now.at ≡ 0 }
+        ensures { result ≡ house_columns self.now.table.numbers.now }
+    {
+        [
+            Range::exactly(RowKind::House as u32),
+            Range::new(1, 3),
+            Range::new(1, 3),
+            Range::exactly(zone(self.number(ZONE))),
+            Range::new(1, 2),
+            Range::new(1, 3),
+            Range::UNUSED,
+            Range::new(0, 3),
+        ]
+    }
+
+    // The storey that is due in a row of ends. It is also the row of that storey.
+    pub fn ends_storey(&self) -> usize
+        requires { storeys self.now.table.numbers.now < self.now.at }
+        ensures { result ≡ ends_storey self.now.table.numbers.now self.now.at }
+    {
+        (self.at - self.table.first_ends()) / 2 + 1
+    }
+
+    pub fn ends_columns(&self) -> [Range; 8]
+        requires { storeys self.now.table.numbers.now < self.now.at }
+        ensures { result ≡ ends_columns self.now.table.numbers.now self.now.at }
+    {
+        let storey = self.ends_storey() as u32;
+        let direction = (self.at - self.table.first_ends()) as u32 % 2 + 1;
+        let top = self.table.storeys;
+        [
+            Range::exactly(RowKind::Ends as u32),
+            Range::exactly(storey),
+            Range::exactly(direction),
+            Range::new(1, 50_000),
+            Range::new(1, 50_000),
+            Range::new(storey, top),
+            Range::new(storey, top),
+            Range::UNUSED,
+        ]
+    }
+
+    // A wall's strength or joint, which an opening does not have.
+    fn solid(&self, range: Range) -> Range
+        ensures { result ≡ solid self.now.table.numbers.now self.now.at range }
+    {
+        if is_opening(self.number(WALL_TYPE)) {
+            Range::UNUSED
+        } else {
+            range
+        }
+    }
+
+    pub fn wall_columns(&self) -> [Range; 8]
+        ensures { result ≡ wall_columns self.now.table.numbers.now self.now.at }
+    {
+        [
+            Range::exactly(RowKind::Wall as u32),
+            Range::new(1, self.table.storeys),
+            Range::new(1, 2),
+            Range::new(1, 3),
+            self.solid(Range::new(1, 300)),
+            Range::new(1, 20_000),
+            self.solid(Range::new(1, 4)),
+            Range::new(1, 3),
+        ]
+    }
+}
