@@ -4,7 +4,7 @@ use borrow.Author.Tests.{eqb-false}
 use Rattle.answer.specs.declared.refusal.Reason.{Reason}
 use Rattle.answer.specs.declared.refusal.Reason.TheVariants.{SheetLength, Misprint, RowOutOfOrder, OutOfRange, TooManyWalls, EndsExceedStorey, MarkOnAbsentPart, NoParts, LentSpaceShort, NoSuchDay, DatesOutOfOrder}
 use Rattle.answer.specs.declared.refusal.Refusal.{Refusal}
-use Rattle.answer.specs.Told.{Told, told, accepts, number_of}
+use Rattle.answer.specs.Told.{Told, counted, refusal, told, accepts, number_of}
 
 -- The reason of a number from 1 to 11, and each reason's number leads back to it.
 abbrev reason_of : ℕ → Reason
@@ -29,7 +29,11 @@ reason_numbered DatesOutOfOrder = refl
 pub number_same : (one other : Reason) → number_of one ≡ number_of other → one ≡ other
 number_same one other e = sym (reason_numbered one) ∙ ap reason_of e ∙ reason_numbered other
 
--- Answers that tell the same are the same. So a refusal tells no count, not even a count of 0.
+-- A refusal tells no count, whatever its number, not even one numbered 0 a count of 0.
+pub never_count : (number row column count : ℕ) → refusal number row column ≡ counted count → ⊥
+never_count number row column count e = subst T (ap (λ (t : Told). t.is_count) (sym e)) tt
+
+-- Answers that tell the same are the same.
 pub told_same : (one other : Result ℕ Refusal) → told one ≡ told other → one ≡ other
 told_same (Ok n) (Ok m) e = ap (λ (k : ℕ). Ok k) (ap (λ (t : Told). t.count) e)
 told_same (Ok n) (Err r) e = absurd (subst T (ap (λ (t : Told). t.is_count) e) tt)

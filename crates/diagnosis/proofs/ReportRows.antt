@@ -1,8 +1,10 @@
 -- The report's rows as they are written: one row more, the verdict's row. Assumes nothing.
-use Rattle.std.proofs.Common.{drop, ◌≡◌, refl, List, ℕ, ◌+◌, ◌-◌, ◌*◌, ◌≤◌, arith, length, take, length-append, take_at}
-use borrow.Rule.Slice.PartMut.{put_mid}
+use Rattle.std.proofs.Common.{◌≡◌, refl, List, [], ◌∷◌, ◌++◌, ℕ, ◌+◌, ◌*◌, ◌<◌, ◌≤◌, arith, add-one, append-nil, length, set, take, length-append}
+use Rattle.std.specs.List.{flat_map}
+use Rattle.std.proofs.lemmas.List.{take_more_set}
+use Rattle.std.proofs.lemmas.Grind.{flat_map-append}
 use Rattle.answer.specs.Lists.{joined, over}
-use Rattle.answer.proofs.Lists.{over_part, part_put, joined_length, joined_over}
+use Rattle.answer.proofs.Lists.{joined_length}
 use Rattle.sheet.specs.Sheet.{after_printing}
 use Rattle.sheet.proofs.Sheets.{printing_rows}
 use Rattle.survey.specs.Table.{storeys}
@@ -17,29 +19,32 @@ rows_below found count = joined count (row_by found.places found.factor)
 pub rows_length : (found : HouseAssessment) (count : ℕ) → length (rows_below found count) ≡ 8 * count
 rows_length found count = joined_length 8 (row_by found.places found.factor) (λ i. refl) count
 
-pub row_more : (found : HouseAssessment) (lent : List ℕ) (at : ℕ) {written row : List ℕ} → 8 * at + 8 ≤ length lent
-    → written ≡ over lent (rows_below found at) → row ≡ row_by found.places found.factor at
-    → put_mid (8 * at) (8 * at + 8 - 8 * at) written row ≡ over lent (rows_below found (at + 1))
-row_more found lent at room e row = joined_over 8 (row_by found.places found.factor) (λ i. refl) lent _ _ at room e row
+joined_next : (f : ℕ → List ℕ) (n : ℕ) → joined n f ++ f n ≡ joined (n + 1) f
+unfolding joined
+joined_next f n = rw add-one refl
+
+pub row_more : (found : HouseAssessment) (rows : List (List ℕ)) (at : ℕ) {row : List ℕ} → at < length rows
+    → flat_map (λ (r : List ℕ). r) (take at rows) ≡ rows_below found at → row ≡ row_by found.places found.factor at
+    → flat_map (λ (r : List ℕ). r) (take (at + 1) (set rows at row)) ≡ rows_below found (at + 1)
+row_more found rows at {row} inside e f =
+    rw (take_more_set rows at row inside, flat_map-append (λ (r : List ℕ). r) (take at rows) (row ∷ []), e, append-nil row, f)
+    (joined_next (row_by found.places found.factor) at)
 
 rows_by_length : (found : HouseAssessment) → length (rows_by found) ≡ 8 * found.count + 8
 rows_by_length found = simp length-append (omega (arith, rows_length found found.count))
 
--- The verdict's row after those of all places, and the report's rows as they are handed to printing.
-pub rows_filled : (found : HouseAssessment) (lent : List ℕ) {written last : List ℕ} → 8 * lines_by found ≤ length lent
-    → written ≡ over lent (rows_below found found.count) → last ≡ verdict_row found.least
-    → put_mid (8 * found.count) (8 * found.count + 8 - 8 * found.count) written last ≡ over lent (rows_by found)
-rows_filled found lent {written} {last} room e verdict =
-    rw (part_put (8 * found.count) 8 written last, e, verdict)
-    (over_part lent (rows_below found found.count) (verdict_row found.least) (8 * found.count) 8 (rows_length found found.count) refl (omega arith))
+-- The verdict's row after those of all places.
+pub rows_filled : (found : HouseAssessment) (rows : List (List ℕ)) {last : List ℕ} → found.count < length rows
+    → flat_map (λ (r : List ℕ). r) (take found.count rows) ≡ rows_below found found.count → last ≡ verdict_row found.least
+    → flat_map (λ (r : List ℕ). r) (take (lines_by found) (set rows found.count last)) ≡ rows_by found
+rows_filled found rows {last} inside e verdict =
+    rw (take_more_set rows found.count last inside, flat_map-append (λ (r : List ℕ). r) (take found.count rows) (last ∷ []), e, append-nil last, verdict) refl
 
 -- They are printed where there is room for them.
-pub rows_printed : (found : HouseAssessment) (rows lent : List ℕ) {filled : List ℕ} → filled ≡ over rows (rows_by found) → 65 * lines_by found ≤ length lent
-    → after_printing (take (8 * lines_by found) filled) lent ≡ over lent (bytes_by found)
-unfolding over
-rows_printed found rows lent e room =
-    rw (e, take_at (rows_by found) (drop (length (rows_by found)) rows) (8 * lines_by found) (omega (arith, rows_by_length found)))
-    (printing_rows (rows_by found) lent (lines_by found) (omega (arith, rows_by_length found)) room)
+pub rows_printed : (found : HouseAssessment) (lent : List ℕ) {filled : List ℕ} → filled ≡ rows_by found → 65 * lines_by found ≤ length lent
+    → after_printing filled lent ≡ over lent (bytes_by found)
+rows_printed found lent e room =
+    rw e (printing_rows (rows_by found) lent (lines_by found) (omega (arith, rows_by_length found)) room)
 
 -- A table's report is as long.
 results_length : (table : List ℕ) → length (result_rows table) ≡ 16 * storeys table

@@ -41,7 +41,7 @@ pub struct Dates {
 }
 
 // A wall, by its row.
-pub fn wall_of(wall: &[u32]) -> Wall
+pub(crate) fn wall_of(wall: &[u32]) -> Wall
     ensures { result ≡ wall_of wall.now 0 }
 {
     Wall {
@@ -82,7 +82,7 @@ impl<'a> AcceptedTable<'a> {
     ghost use Rattle.diagnosis.specs.Internal.{direction_number, end_number};
 
     // Judges any table: the table as an accepted one, or its refusal.
-    pub fn judged(table: &'a [u32]) -> Result<AcceptedTable<'a>, Refusal>
+    pub(crate) fn judged(table: &'a [u32]) -> Result<AcceptedTable<'a>, Refusal>
         ensures accepted { IfOk result (λ accepted. accepted.table.now ≡ table.now) }
         ensures refused { IfErr result (λ refusal. told (Err refusal) ≡ judging table.now) }
     {
@@ -92,7 +92,7 @@ impl<'a> AcceptedTable<'a> {
     }
 
     // A storey's row, which is the row of its number.
-    pub fn storey(&self, storey: u32) -> Storey
+    pub(crate) fn storey(&self, storey: u32) -> Storey
         ensures { result ≡ storey_of self.now.table.now storey }
     {
         let row = storey as usize;
@@ -106,7 +106,7 @@ impl<'a> AcceptedTable<'a> {
     }
 
     // A whole storey as a part that strength is required of.
-    pub fn storey_part(&self, storey: Storey) -> HousePart
+    pub(crate) fn storey_part(&self, storey: Storey) -> HousePart
         ensures { result ≡ storey_part self.now.house storey }
     {
         HousePart {
@@ -117,7 +117,7 @@ impl<'a> AcceptedTable<'a> {
     }
 
     // An end of a storey in a direction as a part that strength is required of.
-    pub fn end_part(&self, storey: u32, direction: Direction, end: End) -> HousePart
+    pub(crate) fn end_part(&self, storey: u32, direction: Direction, end: End) -> HousePart
         requires { InHouse self.now.table.now storey (direction_number direction) }
         ensures { result ≡ end_part self.now.table.now storey (direction_number direction) (end_number end) }
     {
@@ -132,14 +132,14 @@ impl<'a> AcceptedTable<'a> {
 
     // The walls of a storey: none where the house lacks it.
     #[tactic(auto, using(survey::proofs::StoreyWalls::run_is_walls))]
-    pub fn walls(&self, storey: u32) -> &'a [u32]
+    pub(crate) fn walls(&self, storey: u32) -> &'a [u32]
         ensures { result.now ≡ storey_walls self.now.table.now storey }
     {
         storey_run(self.table, storey)
     }
 
     // The two sets of the parts row.
-    pub fn items(&self) -> Items
+    pub(crate) fn items(&self) -> Items
         ensures { result ≡ items_of self.now.table.now }
     {
         let parts = self.rows - 2;
@@ -150,14 +150,14 @@ impl<'a> AcceptedTable<'a> {
     }
 
     // 1 where the house was repaired, else 0, by the parts row.
-    pub fn repaired(&self) -> u32
+    pub(crate) fn repaired(&self) -> u32
         ensures { result ≡ repaired self.now.table.now }
     {
         cell(self.table, self.rows - 2, REPAIRED)
     }
 
     // The dates row.
-    pub fn dates(&self) -> Dates
+    pub(crate) fn dates(&self) -> Dates
         ensures { result ≡ dates_of self.now.table.now }
     {
         let dates = self.rows - 1;

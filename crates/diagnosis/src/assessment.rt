@@ -106,7 +106,7 @@ impl AcceptedTable<'_> {
     }
 
     // The table's house.
-    pub fn assess(&self) -> HouseAssessment
+    pub(crate) fn assess(&self) -> HouseAssessment
         ensures { WorkedOut self.now.table.now result }
     {
         let storeys = self.house.storeys;

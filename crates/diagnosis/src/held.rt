@@ -70,7 +70,7 @@ impl HeldSums {
 
 impl AcceptedTable<'_> {
     // What a storey holds in both directions.
-    pub fn storey_sums(&self, storey: u32) -> BothDirections
+    pub(crate) fn storey_sums(&self, storey: u32) -> BothDirections
         ensures x { result.x ≡ held_sums self.now.table.now storey 1 }
         ensures y { result.y ≡ held_sums self.now.table.now storey 2 }
     {

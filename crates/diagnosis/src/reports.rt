@@ -1,5 +1,6 @@
 // A table's report, in the sheet's own columns.
-ghost use Rattle.std.specs.Prelude.{◌≡◌, ◌≤◌, ◌<◌, ◌*◌, length};
+ghost use Rattle.std.specs.List.{flat_map};
+ghost use Rattle.std.specs.Prelude.{take, ◌≡◌, ◌≤◌, ◌<◌, ◌*◌, length};
 ghost use Rattle.answer.specs.Told.{told};
 ghost use Rattle.answer.specs.Lists.{over};
 ghost use Rattle.method.specs.Held.{most_held};
@@ -53,19 +54,19 @@ fn verdict_row(least: u32) -> [u32; ROW]
 }
 
 impl HouseAssessment {
-    // Writes the row of every storey and direction, and then the verdict's.
-    fn fill_rows(&self, rows: &mut [u32])
-        requires { 8 * lines_by self.now ≤ length rows.old }
-        ensures { rows.new ≡ over rows.old (rows_by self.now) }
+    // The report's rows, at the front of as many as the longest report has: that of every storey and
+    // direction, and then the verdict's.
+    fn rows(&self) -> [[u32; ROW]; MOST_LINES]
+        ensures { flat_map (λ row. row) (take (lines_by self.now) result) ≡ rows_by self.now }
     {
         let count = self.count as usize;
+        let mut rows = [[0u32; ROW]; MOST_LINES];
         for (at, found) in self.places[..count].iter().enumerate() {
             let number = at as u32;
-            let row = result_row(number / 2 + 1, number % 2 + 1, *found, self.factor);
-            rows[ROW * at..ROW * at + ROW].copy_from_slice(&row);
+            rows[at] = result_row(number / 2 + 1, number % 2 + 1, *found, self.factor);
         }
-        let last = ROW * count;
-        rows[last..last + ROW].copy_from_slice(&verdict_row(self.least));
+        rows[count] = verdict_row(self.least);
+        rows
     }
 
     // Writes the report into lent bytes, where they have room for it: its rows are filled with numbers
@@ -80,9 +81,7 @@ impl HouseAssessment {
         if report.len() < length {
             return Err(Refusal::without_place(Reason::LentSpaceShort));
         }
-        let mut rows = [0u32; ROW * MOST_LINES];
-        self.fill_rows(&mut rows);
-        print_rows(&rows[..ROW * lines], report);
+        print_rows(self.rows()[..lines].as_flattened(), report);
         Ok(length as u32)
     }
 }

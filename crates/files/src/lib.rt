@@ -15,7 +15,7 @@ use std::rt::Files;
 use std::{fs, io};
 
 // A longer file is cut there, at a length that is still refused.
-pub const MOST_INPUT: u64 = 65_536;
+const MOST_INPUT: u64 = 65_536;
 
 fn read_file(rt: &(impl Files + AllocGlobal), path: &str) -> io::Result<Vec<u8>> {
     let mut bytes = Vec::new(rt.alloc());

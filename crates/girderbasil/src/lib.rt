@@ -1,6 +1,6 @@
 // The functions that a host program calls, from C or Rust, and nothing else.
 //
-// Uses `answer`, `sheet` and `diagnosis`. Document 01: "The host program on the phone calls it with
+// Uses `answer`, `sheet`, `method` and `diagnosis`. Document 01: "The host program on the phone calls it with
 // numbers and byte slices and must get the same answers." A slice crosses as a pointer and its length in
 // elements, an answer as a struct of numbers by value: an enum cannot cross. The definitions that tie
 // these structs to the paper's values stand in specs/Host.antt; include/girderbasil.h is the same
@@ -118,10 +118,10 @@ impl From<Result<Record, Refusal>> for HostScoring {
                     ..NOTHING
                 }
             }
-            Err(refusal) => HostScoring {
-                number: refusal.reason.into(),
-                row: refusal.row,
-                column: refusal.column,
+            Err(refused) => HostScoring {
+                number: refused.reason.into(),
+                row: refused.row,
+                column: refused.column,
                 ..NOTHING
             },
         }

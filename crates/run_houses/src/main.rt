@@ -5,8 +5,8 @@
 // and with none: number, row, column, count. HOUSES.md beside src/ says what each house is for. What is
 // printed is tested, against the file stdout.
 //
-// Uses `answer`, `files`, `sheet`, `diagnosis` and std. Of a sheet that can't be read it tells on standard
-// error, and runs the next; where it can't print, it ends with status 1.
+// Uses `answer`, `files`, `sheet`, `method`, `diagnosis` and std. Of a sheet that can't be read it tells on
+// standard error, and runs the next; where it can't print, it ends with status 1.
 #![tactic(auto)]
 
 use answer::{MOST_NUMBERS, ROW};

@@ -52,6 +52,17 @@ fn read_lines(sheet: &[u8], numbers: &mut [u32]) -> Result<usize, Refusal>
     Ok(lines.len())
 }
 
+// Copies numbers over the front of a table. The library's method compares the two places as numbers, and the
+// archive for WebAssembly, where addresses are narrower, has none of them.
+fn put_numbers(numbers: &[u32], table: &mut [u32])
+    requires { length numbers.now ≤ length table.old }
+    ensures { table.new ≡ over table.old numbers.now }
+{
+    for (at, &number) in numbers.iter().enumerate() {
+        table[at] = number;
+    }
+}
+
 // Reads a sheet by way of room for so many numbers, and copies them into the lent table only where every
 // line could be read, since a refusal changes none of the table.
 fn read_with<const ROOM: usize>(sheet: &[u8], table: &mut [u32]) -> Answer
@@ -63,8 +74,7 @@ fn read_with<const ROOM: usize>(sheet: &[u8], table: &mut [u32]) -> Answer
 {
     let mut numbers = [0u32; ROOM];
     let lines = read_lines(sheet, &mut numbers)?;
-    let count = ROW * lines;
-    table[..count].copy_from_slice(&numbers[..count]);
+    put_numbers(&numbers[..ROW * lines], table);
     Ok(lines as u32)
 }
 

@@ -23,13 +23,13 @@ const ANY_DAY: Range = Range {
 impl Range {
     pub const UNUSED: Range = Range { low: 0, high: 0 };
 
-    pub fn new(low: u32, high: u32) -> Self
+    pub(crate) fn new(low: u32, high: u32) -> Self
         ensures { result ≡ low to high }
     {
         Range { low, high }
     }
 
-    pub fn exactly(number: u32) -> Self
+    pub(crate) fn exactly(number: u32) -> Self
         ensures { result ≡ exactly number }
     {
         Range::new(number, number)
@@ -55,7 +55,7 @@ fn is_opening(number: u32) -> bool
 }
 
 // A storey's row.
-pub fn storey_columns(number: u32) -> [Range; 8]
+pub(crate) fn storey_columns(number: u32) -> [Range; 8]
     ensures { result ≡ storey_columns number }
 {
     [
@@ -71,7 +71,7 @@ pub fn storey_columns(number: u32) -> [Range; 8]
 }
 
 // The parts row.
-pub fn parts_columns() -> [Range; 8]
+pub(crate) fn parts_columns() -> [Range; 8]
     ensures { result ≡ parts_columns }
 {
     [
@@ -87,7 +87,7 @@ pub fn parts_columns() -> [Range; 8]
 }
 
 // The dates row.
-pub fn dates_columns() -> [Range; 8]
+pub(crate) fn dates_columns() -> [Range; 8]
     ensures { result ≡ dates_columns }
 {
     [
@@ -104,7 +104,7 @@ pub fn dates_columns() -> [Range; 8]
 
 // Rows whose ranges hang on other numbers of the table.
 impl Row<'_> {
-    pub fn house_columns(&self) -> [Range; 8]
+    pub(crate) fn house_columns(&self) -> [Range; 8]
         requires { self.now.at ≡ 0 }
         ensures { result ≡ house_columns self.now.table.numbers.now }
     {
@@ -121,14 +121,14 @@ impl Row<'_> {
     }
 
     // The storey that is due in a row of ends. It is also the row of that storey.
-    pub fn ends_storey(&self) -> usize
+    pub(crate) fn ends_storey(&self) -> usize
         requires { storeys self.now.table.numbers.now < self.now.at }
         ensures { result ≡ ends_storey self.now.table.numbers.now self.now.at }
     {
         (self.at - self.table.first_ends()) / 2 + 1
     }
 
-    pub fn ends_columns(&self) -> [Range; 8]
+    pub(crate) fn ends_columns(&self) -> [Range; 8]
         requires { storeys self.now.table.numbers.now < self.now.at }
         ensures { result ≡ ends_columns self.now.table.numbers.now self.now.at }
     {
@@ -158,7 +158,7 @@ impl Row<'_> {
         }
     }
 
-    pub fn wall_columns(&self) -> [Range; 8]
+    pub(crate) fn wall_columns(&self) -> [Range; 8]
         ensures { result ≡ wall_columns self.now.table.numbers.now self.now.at }
     {
         [

@@ -23,13 +23,13 @@ pub struct Table<'a> {
 }
 
 impl Table<'_> {
-    pub fn first_ends(&self) -> usize
+    pub(crate) fn first_ends(&self) -> usize
         ensures { result ≡ first_ends self.now.numbers.now }
     {
         self.storeys as usize + 1
     }
 
-    pub fn first_wall(&self) -> usize
+    pub(crate) fn first_wall(&self) -> usize
         ensures { result ≡ first_wall self.now.numbers.now }
     {
         3 * self.storeys as usize + 1
@@ -45,21 +45,21 @@ pub struct Row<'a> {
 }
 
 impl Row<'_> {
-    pub fn number(&self, column: usize) -> u32
+    pub(crate) fn number(&self, column: usize) -> u32
         requires { column < 8 }
         ensures { result ≡ cell self.now.table.numbers.now self.now.at column }
     {
         self.table.numbers[ROW * self.at + column]
     }
 
-    pub fn is_wall(&self) -> bool
+    pub(crate) fn is_wall(&self) -> bool
         ensures { result ≡ is_wall self.now.table.numbers.now self.now.at }
     {
         self.number(KIND) == RowKind::Wall as u32
     }
 
     // The refusal of this row by a column, which counts from 0 here and from 1 in what is told.
-    pub fn refusal(&self, reason: Reason, column: usize) -> Refusal
+    pub(crate) fn refusal(&self, reason: Reason, column: usize) -> Refusal
         requires { column < 8 }
         ensures { result ≡ record { reason = reason; row = self.now.at + 1; column = column + 1 } }
     {
@@ -90,7 +90,7 @@ impl Row<'_> {
 
     // Refusal 3 or 4, where one is due. The first `due` columns say which row this is.
     #[tactic(auto, using(crate::proofs::RowFaults::column_tests), unfolding(crate::specs::Judgement::wrong_column))]
-    pub fn check_columns(&self, ranges: &[Range; 8], due: usize) -> Result<(), Refusal>
+    pub(crate) fn check_columns(&self, ranges: &[Range; 8], due: usize) -> Result<(), Refusal>
         requires { due ≤ 8 }
         ensures fault { fault_told result ≡ columns_fault due ranges.now self.now.table.numbers.now self.now.at }
         ensures row { IfErr result (λ refusal. refusal.row ≡ self.now.at + 1) }

@@ -16,7 +16,7 @@ use calendar::is_day;
 // Each test answers the refusal of its row, where one is due.
 impl Row<'_> {
     // The house row.
-    pub fn check_house(&self) -> Result<(), Refusal>
+    pub(crate) fn check_house(&self) -> Result<(), Refusal>
         requires { self.now.at ≡ 0 }
         ensures fault { fault_told result ≡ house_fault self.now.table.numbers.now }
         ensures row { IfErr result (λ refusal. refusal.row ≡ self.now.at + 1) }
@@ -25,7 +25,7 @@ impl Row<'_> {
     }
 
     // A storey's row. Counted from 0, it is the row of the storey's number.
-    pub fn check_storey(&self) -> Result<(), Refusal>
+    pub(crate) fn check_storey(&self) -> Result<(), Refusal>
         ensures fault { fault_told result ≡ storey_fault self.now.table.numbers.now self.now.at }
         ensures row { IfErr result (λ refusal. refusal.row ≡ self.now.at + 1) }
     {
@@ -33,7 +33,7 @@ impl Row<'_> {
     }
 
     // A row of ends.
-    pub fn check_ends(&self) -> Result<(), Refusal>
+    pub(crate) fn check_ends(&self) -> Result<(), Refusal>
         requires { (storeys self.now.table.numbers.now < self.now.at) × (self.now.at < first_wall self.now.table.numbers.now) }
         ensures fault { fault_told result ≡ ends_fault self.now.table.numbers.now self.now.at }
         ensures row { IfErr result (λ refusal. refusal.row ≡ self.now.at + 1) }
@@ -66,7 +66,7 @@ impl Row<'_> {
     }
 
     // A wall row.
-    pub fn check_wall(&self) -> Result<(), Refusal>
+    pub(crate) fn check_wall(&self) -> Result<(), Refusal>
         requires { first_wall self.now.table.numbers.now ≤ self.now.at }
         ensures fault { fault_told result ≡ wall_fault self.now.table.numbers.now self.now.at }
         ensures row { IfErr result (λ refusal. refusal.row ≡ self.now.at + 1) }
@@ -82,7 +82,7 @@ impl Row<'_> {
     }
 
     // The parts row.
-    pub fn check_parts(&self) -> Result<(), Refusal>
+    pub(crate) fn check_parts(&self) -> Result<(), Refusal>
         ensures fault { fault_told result ≡ parts_fault self.now.table.numbers.now self.now.at }
         ensures row { IfErr result (λ refusal. refusal.row ≡ self.now.at + 1) }
     {
@@ -125,7 +125,7 @@ impl Row<'_> {
     }
 
     // The dates row.
-    pub fn check_dates(&self) -> Result<(), Refusal>
+    pub(crate) fn check_dates(&self) -> Result<(), Refusal>
         ensures fault { fault_told result ≡ dates_fault self.now.table.numbers.now self.now.at }
         ensures row { IfErr result (λ refusal. refusal.row ≡ self.now.at + 1) }
     {

@@ -1,5 +1,5 @@
 -- `read_with` meets its contract: the refusal of a misprint, or the numbers copied. Assumes nothing.
-use Rattle.std.proofs.Common.{◌≡◌, ◌∙◌, refl, sym, ap, List, ℕ, ◌*◌, ◌/◌, ◌<◌, ◌≤◌, Ok, Err, ◌++◌, length, take, drop, take_at, arith, rules, length-take-le}
+use Rattle.std.proofs.Common.{◌≡◌, ◌∙◌, refl, sym, ap, List, ℕ, ◌*◌, ◌/◌, ◌<◌, ◌≤◌, Ok, Err, length, take, drop, take_at, arith, rules, length-take-le}
 use Rattle.std.proofs.lemmas.List.{length-replicate}
 use Rattle.answer.specs.Told.{told, counted}
 use Rattle.answer.specs.Length.{most_rows, rows_in}
@@ -23,11 +23,11 @@ lines_are sheet some e =
     let same = counted_lines sheet (length sheet / 65) e in
     (omega arith, omega arith)
 
--- The numbers that were read, copied over the table's front.
-copied : (table zeros numbers : List ℕ) {written : List ℕ} (count : ℕ) → length numbers ≡ count → written ≡ take count (over zeros numbers)
-    → written ++ drop count table ≡ over table numbers
+-- The numbers that were read, put over the table's front.
+put : (table zeros numbers : List ℕ) {read : List ℕ} (count : ℕ) → length numbers ≡ count → read ≡ over zeros numbers
+    → over table (take count read) ≡ over table numbers
 unfolding over
-copied table zeros numbers count long e = rw (e, take_at numbers (drop (length numbers) zeros) count long, long)
+put table zeros numbers count long e = rw (e, take_at numbers (drop (length numbers) zeros) count long) refl
 
 pub whole_as_slice-read_lines : goal.whole_as_slice-read_lines
 whole_as_slice-read_lines g c = omega arith
@@ -46,24 +46,17 @@ returns-in_err-lines g c =
     let case = reading_refused sheet c.args.table.now refl (reading_lines sheet c.args.table.now refl (λ none. omega arith) c.requires.table told_lines) refl in
     record { answer = ap told same ∙ case.0; table = case.1 }
 
-pub overflow_mul-count : goal.overflow_mul-count
-overflow_mul-count g c = omega (arith, lines_are _ c.requires.lines c.in_ok-lines.ensures.answer)
+pub overflow_mul-lines : goal.overflow_mul-lines
+overflow_mul-lines g c = omega (arith, lines_are _ c.requires.lines c.in_ok-lines.ensures.answer)
 
-pub slice_bounds-copy_from_slice-end : goal.slice_bounds-copy_from_slice-end
-slice_bounds-copy_from_slice-end g c = omega (arith, lines_are _ c.requires.lines c.in_ok-lines.ensures.answer)
+pub shared_whole_as_front-put_numbers : goal.shared_whole_as_front-put_numbers
+shared_whole_as_front-put_numbers g c = (omega (arith, lines_are _ c.requires.lines c.in_ok-lines.ensures.answer), omega arith)
 
-pub slice_bounds-copy_from_slice-end-2 : goal.slice_bounds-copy_from_slice-end-2
-slice_bounds-copy_from_slice-end-2 g c =
-    sym (length-take-le _ _ (omega (arith, lines_are _ c.requires.lines c.in_ok-lines.ensures.answer)))
-
-pub shared_whole_as_front-copy_from_slice : goal.shared_whole_as_front-copy_from_slice
-shared_whole_as_front-copy_from_slice g c = (omega (arith, lines_are _ c.requires.lines c.in_ok-lines.ensures.answer), omega arith)
-
-pub copy_from_slice-requires : goal.copy_from_slice-requires
-copy_from_slice-requires g c =
+pub put_numbers-requires : goal.put_numbers-requires
+put_numbers-requires g c =
     let lines = lines_are c.args.sheet.now c.requires.lines c.in_ok-lines.ensures.answer in
     let long = c.read_lines.auto.numbers ∙ length-replicate g.row.ROOM 0 in
-    length-take-le _ _ (omega arith) ∙ sym (length-take-le _ _ (omega arith))
+    omega (arith, length-take-le (8 * c.in_ok-lines.lines) c.read_lines.new.numbers (omega arith))
 
 pub overflow_cast-result : goal.overflow_cast-result
 overflow_cast-result g c = omega (arith, lines_are _ c.requires.lines c.in_ok-lines.ensures.answer)
@@ -77,4 +70,6 @@ returns g c =
     let told_lines = c.in_ok-lines.ensures.answer ∙ ap (lines_read sheet) (sym rows.0) in
     let case = reading_counted sheet table refl (reading_lines sheet table refl (λ none. omega arith) c.requires.table told_lines) in
     let read = c.in_ok-lines.ensures.numbers (ap (λ (n : ℕ). Ok n) (lines.0 ∙ rows.0)) in
-    record { answer = case.0; table = copied table _ (numbers_of (8 * rows_in 65 (length sheet)) sheet) _ (omega (arith, numbers_length (8 * rows_in 65 (length sheet)) sheet)) (c.copy_from_slice.ensures.after ∙ ap (take (8 * c.in_ok-lines.lines)) (rw (← rows.0) at read)) ∙ case.1 }
+    let numbers = numbers_of (8 * rows_in 65 (length sheet)) sheet in
+    let long = numbers_length (8 * rows_in 65 (length sheet)) sheet in
+    record { answer = case.0; table = c.put_numbers.ensures ∙ put table _ numbers _ (omega (arith, long)) (rw (← rows.0) at read) ∙ case.1 }
