@@ -112,7 +112,7 @@ fn run_tables(rt: &impl Print) -> io::Result<()> {
     write_zeros(rt, TABLE, 0, 0, 0, BYTES)?;
     write_zeros(rt, 80, 79, 79, 99_999_999, 650)?;
     write_zeros(rt, 80, 79, 79, 100_000_000, 649)?;
-    write_zeros(rt, 80, 40, 79, 4_294_967_295, 0)?;
+    write_zeros(rt, 80, 40, 79, u32::MAX, 0)?;
     write_zeros(rt, 80, 23, 16, 100_000_000, 650)?;
     write_zeros(rt, 80, 16, 15, 100_000_000, 650)?;
     write_zeros(rt, 80, 0, 79, 100_000_000, 650)?;

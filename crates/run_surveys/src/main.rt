@@ -10,10 +10,12 @@
 
 use answer::{MOST_NUMBERS, MOST_ROWS, ROW};
 use files::{print_row, run_file};
+use std::str::FromStr;
 use std::{env, io};
 use survey::{storey_run, storey_walls};
 
-// How a table is run.
+// How a table is run. No function may hand out a closure for a word, so each way is a case here, and one `match`
+// has what it does (`run_table`).
 #[derive(Clone, Copy)]
 enum Way {
     // Judged as it is;
@@ -31,21 +33,23 @@ enum Way {
     Longer,
 }
 
-// It is a value and no closure, since a word holds for all files after it.
-impl Way {
-    fn named(word: &str) -> Option<Way> {
+// A word that names no way.
+struct NoWay;
+
+impl FromStr for Way {
+    type Err = NoWay;
+
+    fn from_str(word: &str) -> Result<Way, NoWay> {
         match word {
-            "--walls" => Some(Way::Walls),
-            "--runs" => Some(Way::Runs),
-            "--lengths" => Some(Way::Lengths),
-            "--large" => Some(Way::Large),
-            "--longer" => Some(Way::Longer),
-            _ => None,
+            "--walls" => Ok(Way::Walls),
+            "--runs" => Ok(Way::Runs),
+            "--lengths" => Ok(Way::Lengths),
+            "--large" => Ok(Way::Large),
+            "--longer" => Ok(Way::Longer),
+            _ => Err(NoWay),
         }
     }
 }
-
-const LARGEST: u32 = 4_294_967_295;
 
 // The bytes of as many rows as the longest table has.
 const BYTES: usize = MOST_ROWS * sheet::LINE;
@@ -63,7 +67,7 @@ fn run_judged(rt: &impl Print, table: &[u32]) -> io::Result<()> {
     let [one, two, three, four] = [1, 2, 3, 4].map(|storey| rows_of(storey_walls(table, storey)));
     match survey::judge(table) {
         Ok(count) => {
-            let [zero, largest] = [0, LARGEST].map(|storey| rows_of(storey_walls(table, storey)));
+            let [zero, largest] = [0, u32::MAX].map(|storey| rows_of(storey_walls(table, storey)));
             print_row(rt, [count, zero, one, two, three, four, largest, 0])
         }
         Err(refusal) => {
@@ -107,10 +111,11 @@ fn run_lengths(rt: &impl Print, table: &[u32]) -> io::Result<()> {
     Ok(())
 }
 
+// Judges a table with the largest number in the place of each of its numbers in turn.
 fn run_large(rt: &impl Print, table: &mut [u32]) -> io::Result<()> {
     for at in 0..table.len() {
         let number = table[at];
-        table[at] = LARGEST;
+        table[at] = u32::MAX;
         run_judged(rt, table)?;
         table[at] = number;
     }
@@ -119,7 +124,7 @@ fn run_large(rt: &impl Print, table: &mut [u32]) -> io::Result<()> {
 
 fn run_front(rt: &impl Print, table: &[u32]) -> io::Result<()> {
     run_judged(rt, table)?;
-    let [zero, one, two, three, four, largest] = [0, 1, 2, 3, 4, LARGEST].map(|storey| rows_of(
+    let [zero, one, two, three, four, largest] = [0, 1, 2, 3, 4, u32::MAX].map(|storey| rows_of(
         storey_run(table, storey),
     ));
     print_row(rt, [zero, one, two, three, four, largest, 0, 0])
@@ -162,9 +167,9 @@ fn main(rt: HostRuntime) -> io::Result<()> {
     let mut way = Way::Judged;
     for word in env::args(&rt)?.skip(1) {
         let word = word.as_str();
-        match Way::named(word) {
-            Some(named) => way = named,
-            None => {
+        match word.parse::<Way>() {
+            Ok(named) => way = named,
+            Err(NoWay) => {
                 println!(rt; "{word}")?;
                 run_file(&rt, word, |sheet| run_sheet(&rt, sheet, way))?;
             }

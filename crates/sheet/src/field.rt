@@ -49,7 +49,8 @@ fn digit_or_space(weight: u32, n: u32) -> u8
 }
 
 // Prints a number over the eight characters of a field: its last eight digits, if it has more. They are
-// written in place, since an array handed back by value takes a fifth more time.
+// written in place, since an array handed back by value takes a fifth more time, and a line a place, as the
+// definition has them: the last is no `digit_or_space`, so a loop over the weights would be no plainer.
 pub(crate) fn print(n: u32, characters: &mut [u8])
     requires { length characters.old ≡ 8 }
     ensures { characters.new ≡ printed n }

@@ -19,7 +19,9 @@ pub use line::{LINE, ROW, print_line};
 pub use reader::read;
 pub use writer::{print_rows, write};
 
-// The refusal at a row and a column, which count from 0 here and from 1 where they are told.
+// The refusal at a row and a column, which count from 0 here and from 1 where they are told. (`survey` makes its
+// own, by what a row knows: one maker for both would be open to callers and ask them for small places, and no
+// function that they call asks for anything.)
 fn refusal_at(reason: Reason, row: usize, column: usize) -> Refusal
     requires row { row < most_rows }
     requires column { column < 9 }

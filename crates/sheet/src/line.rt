@@ -5,7 +5,7 @@ ghost use Rattle.sheet.specs.Line.{line};
 use crate::field::{FIELD_WIDTH, print};
 
 // How many numbers a row has, and how many fields a line.
-pub const ROW: usize = answer::ROW;
+pub use answer::ROW;
 // Where a line's last byte stands: after its fields.
 pub(crate) const LAST_BYTE: usize = FIELD_WIDTH * ROW;
 // How many bytes a line has: eight fields of 8 characters, then byte 10.

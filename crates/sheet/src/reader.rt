@@ -10,6 +10,9 @@ use crate::line::{LAST_BYTE, LINE, ROW};
 use crate::refusal_at;
 use answer::{Answer, MOST_NUMBERS, Reason, Refusal, rows_in};
 
+// The ninth place of a line, from 0: its last byte, after the eight fields.
+const LAST_PLACE: usize = ROW;
+
 // The most lines of a short sheet. A house of two storeys with 55 walls has as many.
 const SHORT_SHEET: usize = 64;
 // The numbers of the longest short sheet.
@@ -30,7 +33,7 @@ fn read_line(line: &[u8; LINE], row: usize, numbers: &mut [u32]) -> Result<(), R
         numbers[column] = number;
     }
     if line[LAST_BYTE] != b'\n' {
-        return Err(refusal_at(Reason::Misprint, row, ROW));
+        return Err(refusal_at(Reason::Misprint, row, LAST_PLACE));
     }
     Ok(())
 }
