@@ -52,11 +52,10 @@ fn print_sheet_record(rt: &impl Print, sheet: &[u8]) -> io::Result<()> {
     let Ok(rows) = sheet::read(sheet, &mut table) else {
         return Ok(());
     };
-    let length = ROW * rows as usize;
-    if MOST_NUMBERS < length {
+    let Some(table) = table.get(..ROW * rows as usize) else {
         return Ok(());
-    }
-    match diagnosis::score(&table[..length]) {
+    };
+    match diagnosis::score(table) {
         Ok(found) => print_record(rt, &found),
         Err(_) => Ok(()),
     }
@@ -64,11 +63,11 @@ fn print_sheet_record(rt: &impl Print, sheet: &[u8]) -> io::Result<()> {
 
 // Prints what is answered for a sheet with so many bytes lent.
 fn lend(rt: &impl Print, sheet: &[u8], room: usize) -> io::Result<()> {
-    if MOST_REPORT_BYTES < room {
-        return Ok(());
-    }
     let mut report = [0u8; MOST_REPORT_BYTES];
-    print_answer(rt, diagnosis::diagnose(sheet, &mut report[..room]))
+    let Some(lent) = report.get_mut(..room) else {
+        return Ok(());
+    };
+    print_answer(rt, diagnosis::diagnose(sheet, lent))
 }
 
 fn run_sheet(rt: &impl Print, sheet: &[u8]) -> io::Result<()> {

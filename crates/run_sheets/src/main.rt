@@ -46,13 +46,12 @@ fn print_again(
 
 // Prints what is answered for a sheet with so many numbers and bytes lent.
 fn lend(rt: &impl Print, sheet: &[u8], numbers: usize, room: usize) -> io::Result<()> {
-    if MOST_NUMBERS < numbers || BYTES < room {
-        return Ok(());
-    }
     let mut table = [0u32; MOST_NUMBERS];
     let mut bytes = [0u8; BYTES];
-    let answer = again(sheet, &mut table[0..numbers], &mut bytes[0..room]);
-    print_answer(rt, answer)
+    let (Some(table), Some(bytes)) = (table.get_mut(..numbers), bytes.get_mut(..room)) else {
+        return Ok(());
+    };
+    print_answer(rt, again(sheet, table, bytes))
 }
 
 // Enough lent; just enough for twelve lines; a number short; a byte short; nothing.
@@ -75,11 +74,11 @@ fn run_sheet(rt: &impl Print, sheet: &[u8], lendings: bool) -> io::Result<()> {
 
 // Writes the front of a table into so many bytes, and prints the answer.
 fn write_front(rt: &impl Print, table: &[u32], length: usize, room: usize) -> io::Result<()> {
-    if table.len() < length || BYTES < room {
-        return Ok(());
-    }
     let mut bytes = [0u8; BYTES];
-    print_answer(rt, sheet::write(&table[0..length], &mut bytes[0..room]))
+    let (Some(front), Some(bytes)) = (table.get(..length), bytes.get_mut(..room)) else {
+        return Ok(());
+    };
+    print_answer(rt, sheet::write(front, bytes))
 }
 
 // The same for a table of zeros but for one number at two places.
