@@ -1,7 +1,6 @@
 -- Leap years, how many days a month has, and which dates there are. Assumes nothing.
-use Rattle.std.proofs.Common.{◌≡◌, refl, sym, ap, subst, ◌∙◌, Bool, true, false, cond, ◌&&◌, ◌∷◌, ℕ, zero, suc, ◌+◌, ◌-◌, ◌%◌, ◌<◌, ◌≤◌, arith, T, eqb, ltb, lit≤, get_or, slice_get, unwrap_or, ne_eqb, eqb-true, lt-ltb, ltb-true, le-leb, leb-true}
+use Rattle.std.proofs.Common.{◌≡◌, refl, Bool, true, false, cond, ◌∷◌, ℕ, ◌+◌, ◌%◌, ◌<◌, ◌≤◌, arith, eqb, ltb, lit≤, get_or, ne_eqb, eqb-true, lt-ltb, ltb-true, le-leb, leb-true}
 use Rattle.std.proofs.lemmas.Bool.{and_parts}
-use Rattle.std.proofs.lemmas.Option.{unwrap_or-slice_get}
 use mathlib.Core.Bool.{and-false}
 use native.Mathlib.Decide.{ℕ_discrete}
 use borrow.Author.Tests.{lt-leb}
@@ -23,11 +22,6 @@ module _ (year month : ℕ) where
   pub days_other : (month ≡ 2 → ⊥) → get_or (0 ∷ month_lengths) month 0 ≡ days_in year month
   unfolding days_in
   days_other other = rw (ne_eqb month 2 other)
-
--- A month by the number of those before it.
-pub month_listed : (month before : ℕ) → 1 ≤ month → before ≡ month - 1 → unwrap_or (slice_get month_lengths before) 0 ≡ get_or (0 ∷ month_lengths) month 0
-month_listed zero before some same = absurd (omega arith)
-month_listed (suc month) before some same = unwrap_or-slice_get month_lengths before 0 ∙ ap (λ (n : ℕ). get_or month_lengths n 0) (omega arith)
 
 -- February has 28 days or 29,
 pub february_days : (year : ℕ) → (28 ≤ days_in year 2) × (days_in year 2 ≤ 29)

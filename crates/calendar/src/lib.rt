@@ -9,25 +9,24 @@
 ghost use Rattle.std.specs.Prelude.{◌≡◌, unwrap_or};
 ghost use Rattle.calendar.specs.Days.{is_leap, days_in, is_date, is_day, ten_years_after, age_on};
 
-// The days of January to December, where February has no 29th.
-const MONTH_LENGTHS: [u32; 12] = [31, 28, 31, 30, 31, 30, 31, 31, 30, 31, 30, 31];
-
 // Whether February has a 29th in a year: 1900 is no leap year, and 2000 is one.
 fn is_leap(year: u32) -> bool
     ensures { result ≡ is_leap year }
 {
-    year % 4 == 0 && (year % 100 != 0 || year % 400 == 0)
+    year.is_multiple_of(4) && (!year.is_multiple_of(100) || year.is_multiple_of(400))
 }
 
 // How many days a month of a year has, where there is such a month.
 fn days_in(year: u32, month: u32) -> Option<u32>
     ensures { unwrap_or result 0 ≡ days_in year month }
 {
-    if month == 2 && is_leap(year) {
-        return Some(29);
+    match month {
+        2 if is_leap(year) => Some(29),
+        2 => Some(28),
+        4 | 6 | 9 | 11 => Some(30),
+        1..=12 => Some(31),
+        _ => None,
     }
-    let before = month.checked_sub(1)?;
-    MONTH_LENGTHS.get(before as usize).copied()
 }
 
 // Whether a month of a year has such a day.
@@ -59,8 +58,8 @@ fn ten_years_after(day: u32) -> u64
     }
 }
 
-// The age on a day of what was completed on another: 1 under ten years, 2 ten or more. It is a number, as
-// it is in a table's rows, where any number may stand.
+// The age on a day of what was completed on another: 1 under ten years, 2 ten or more. It stays a number,
+// since the deterioration factor that it is handed to takes any number.
 pub fn age_on(completion: u32, day: u32) -> u32
     ensures { result ≡ age_on completion day }
 {

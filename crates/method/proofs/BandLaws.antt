@@ -1,6 +1,6 @@
 -- Bands and the layout factor: the test by which a band is computed; a band never rises as more is required, and with the higher band kept
 -- the factor never rises as bands fall. Assumes nothing.
-use Rattle.std.proofs.Common.{◌≡◌, refl, sym, ap, ◌∙◌, Bool, true, false, not, ◌&&◌, ◌||◌, [], ℕ, ◌+◌, ◌*◌, ◌/◌, ◌%◌, ◌≤◌, zero-le, max, mul-add, mul_left_comm, mul-le-mul_left, le_refl, le_trans, add-le-add, arith, length, get_or, unwrap_or, eqb, leb, lit≤, leb-true, leb-false, le-leb, eqb-true, eq-eqb}
+use Rattle.std.proofs.Common.{◌≡◌, refl, sym, ap, ◌∙◌, Bool, true, false, not, ◌&&◌, ◌||◌, [], ℕ, ◌+◌, ◌*◌, ◌/◌, ◌%◌, ◌≤◌, zero-le, max, cond, count_by, ◌∷◌, mul-add, mul_left_comm, mul-le-mul_left, le_refl, le_trans, add-le-add, arith, length, get_or, unwrap_or, eqb, leb, lit≤, leb-true, leb-false, le-leb, eqb-true, eq-eqb}
 use native.Mathlib.Nat.{min-le_right}
 use native.Mathlib.Decide.{dec_le}
 use Rattle.std.specs.Int.{div_ceil}
@@ -31,6 +31,17 @@ reached_test held required limit =
         → t ≡ leb (limit * required) (100_000 * held)
     go true e = sym (le-leb (limit * required) (100_000 * held) (omega (arith, apart, leb-true _ held e)))
     go false e = sym (lt-leb (limit * required) (100_000 * held) (omega (arith, apart, leb-false _ held e)))
+
+-- So it is true just where the definition's number is 1.
+one_if : (t : Bool) → t ≡ eqb (cond t 1 0) 1
+one_if true = refl
+one_if false = refl
+
+pub reached_known : (held required limit : ℕ)
+    → leb (limit * (required / 100_000) + div_ceil (limit * (required % 100_000)) 100_000) held
+    ≡ eqb (reached (record { held = held; required = required }) limit) 1
+unfolding reached
+reached_known held required limit = reached_test held required limit ∙ one_if (leb (limit * required) (100_000 * held))
 
 -- A limit is reached or not.
 pub reached_most : (end : Strengths) (limit : ℕ) → reached end limit ≤ 1
@@ -160,3 +171,18 @@ pair_mirrored one other floor = go (dec_le one 4) (dec_le other 4) (dec_le floor
 pub layout_mirrored : (ends : Bands) (floor : ℕ) → layout_factor ends floor ≡ layout_factor (record { a = ends.b; b = ends.a }) floor
 unfolding layout_factor
 layout_mirrored ends floor = pair_mirrored ends.a ends.b floor
+
+-- The band is how many of the limits are reached.
+pub band_counted : (end : Strengths) → count_by (λ (limit : ℕ). eqb (reached end limit) 1) (33 ∷ 66 ∷ 100 ∷ 133 ∷ []) ≡ band end
+unfolding band reached
+band_counted end =
+    go (leb (33 * end.required) (100_000 * end.held)) (leb (66 * end.required) (100_000 * end.held)) (leb (100 * end.required) (100_000 * end.held))
+    (leb (133 * end.required) (100_000 * end.held))
+  where
+    one : (t : Bool) → cond (eqb (cond t 1 0) 1) 1 0 ≡ cond {A = ℕ} t 1 0
+    one t = ap (λ (u : Bool). cond {A = ℕ} u 1 0) (sym (one_if t))
+
+    go : (b c d e : Bool)
+        → 0 + cond (eqb (cond b 1 0) 1) 1 0 + cond (eqb (cond c 1 0) 1) 1 0 + cond (eqb (cond d 1 0) 1) 1 0 + cond (eqb (cond e 1 0) 1) 1 0
+        ≡ cond b 1 0 + cond c 1 0 + cond d 1 0 + cond e 1 0
+    go b c d e = omega (arith, one b, one c, one d, one e)

@@ -1,6 +1,6 @@
 // How far deterioration lowers a house's strength, by the parts that are present and those marked, and
 // by whether the house was repaired.
-#![tactic(auto, using(std::proofs::lemmas::Bool::Decides::nat_tests), unfolding(crate::specs::Deterioration::counted_marks, crate::specs::Deterioration::factor_of, crate::specs::Deterioration::deterioration_factor, crate::specs::Deterioration::after_repair))]
+#![tactic(auto, using(std::proofs::lemmas::Bool::Decides::nat_tests, crate::proofs::Points::points_most, crate::proofs::Points::counted_most, crate::proofs::Points::masked_most, crate::proofs::Points::points_under_ten_most, crate::proofs::Theorems::points_masked, crate::proofs::Theorems::points_under_ten_masked), unfolding(crate::specs::Deterioration::counted_marks, crate::specs::Deterioration::factor_of, crate::specs::Deterioration::deterioration_factor, crate::specs::Deterioration::after_repair))]
 
 ghost use Rattle.std.specs.Prelude.{◌≡◌, ◌≤◌};
 ghost use Rattle.std.specs.Int.Bits.{bit_and};
@@ -9,14 +9,16 @@ ghost use Rattle.method.specs.Deterioration.{item_points, item_points_under_ten,
 
 use crate::rows::Items;
 
-// The items of each weight (000's table 4.8): item 1 is worth 1, each next item twice the one before.
-const FOUR_POINTS: u32 = 8; // item 4
+// The items of each weight (000's table 4.8), from the right: item 1 is worth 1, each next item twice the
+// one before. Points are found as document 01 says, by mask and count of ones.
+const FOUR_POINTS: u32 = 0b0_0000_0000_1000; // item 4
 
-const TWO_POINTS: u32 = 5911; // items 1, 2, 3, 5, 9, 10, 11, 13
+const TWO_POINTS: u32 = 0b1_0111_0001_0111; // items 1, 2, 3, 5, 9, 10, 11, 13
 
-const ONE_POINT: u32 = 2272; // items 6, 7, 8, 12
+const ONE_POINT: u32 = 0b0_1000_1110_0000; // items 6, 7, 8, 12
 
-// A factor of at most 1, upper over lower.
+// A factor of at most 1, upper over lower. It has no order: 18/20 and 9/10 are equal as factors and not as
+// fractions, so the comparisons below multiply out.
 #[derive(Clone, Copy, Debug, PartialEq, Eq)]
 pub struct Fraction {
     pub upper: u8,
@@ -44,7 +46,8 @@ fn points(set: u32) -> u32
     points_under_ten(set) + count_items(set, ONE_POINT)
 }
 
-// The points of the marks that count, at age 1 (under ten years) or 2 (ten or more).
+// The points of the marks that count, at age 1 (under ten years) or 2 (ten or more). Any other number goes
+// by the same test.
 fn counted_marks(marked: u32, age: u32) -> u32
     ensures { result ≡ counted_marks marked age }
 {
@@ -55,7 +58,8 @@ fn counted_marks(marked: u32, age: u32) -> u32
     }
 }
 
-// The factor of points present and points marked.
+// The factor of points present and points marked. It is below 7/10 where 10 × (present − marked) is less
+// than 7 × present, here with 10 × marked added on both sides, since more may be marked than is present.
 fn factor_of(present: u32, marked: u32) -> Fraction
     requires present { present ≤ 24 }
     requires marked { marked ≤ 24 }

@@ -1,5 +1,5 @@
 // The joint factor (000's Kj): how far the joints at its columns lower a solid wall.
-#![tactic(auto, using(std::proofs::lemmas::Bool::Decides::nat_tests), unfolding(crate::specs::Held::position, crate::specs::Held::foundation_used, crate::specs::Held::shared_row, crate::specs::Held::interpolated, crate::specs::Held::row_factor))]
+#![tactic(auto, using(std::proofs::lemmas::Bool::Decides::nat_tests, crate::proofs::Tables::numbered_nth), unfolding(crate::specs::Held::position, crate::specs::Held::foundation_used, crate::specs::Held::shared_row, crate::specs::Held::interpolated, crate::specs::Held::row_factor))]
 
 ghost use Rattle.std.specs.Prelude.{◌≡◌, ◌<◌, ◌≤◌, [], ◌∷◌, get_or, unwrap_or};
 ghost use Rattle.method.specs.Printed.{nth};

@@ -1,7 +1,7 @@
 // How far the layout of walls lowers a storey's strength: the bands of its ends, and its floor.
-#![tactic(auto, using(std::proofs::lemmas::Bool::Decides::nat_tests), unfolding(crate::specs::LayoutFactor::band, crate::specs::LayoutFactor::floor_type))]
+#![tactic(auto, using(std::proofs::lemmas::Bool::Decides::nat_tests, crate::proofs::BandLaws::reached_known), unfolding(crate::specs::LayoutFactor::floor_type))]
 
-ghost use Rattle.std.specs.Prelude.{◌≡◌, ◌≤◌, cond, unwrap_or};
+ghost use Rattle.std.specs.Prelude.{◌≡◌, ◌≤◌, eqb, unwrap_or};
 ghost use Rattle.method.specs.LayoutFactor.{reached, band, floor_type, layout_factor};
 
 use crate::printed::numbered;
@@ -47,12 +47,15 @@ static LAYOUT_FACTORS: [[[u8; 3]; 5]; 5] = [
     ],
 ];
 
+// The limits where bands B to E begin, in hundredths.
+const BAND_LIMITS: [u64; 4] = [33, 66, 100, 133];
+
 // Whether an end's sufficiency is at least so many hundredths. That is where limit × required is at most
 // 100,000 × held, but such products may be beyond a u64. So the required strength is taken apart, and
 // limit × required / 100,000, rounded up, is compared with what is held.
 fn reached(end: Strengths, limit: u64) -> bool
     requires { limit ≤ 133 }
-    ensures { cond result 1 0 ≡ reached end limit }
+    ensures { result ≡ eqb (reached end limit) 1 }
 {
     let whole = limit * (end.required / 100_000);
     let rest = (limit * (end.required % 100_000)).div_ceil(100_000);
@@ -63,20 +66,21 @@ fn reached(end: Strengths, limit: u64) -> bool
 pub fn band(end: Strengths) -> u32
     ensures { result ≡ band end }
 {
-    u32::from(reached(end, 33))
-        + u32::from(reached(end, 66))
-        + u32::from(reached(end, 100))
-        + u32::from(reached(end, 133))
+    BAND_LIMITS
+        .iter()
+        .filter(|&&limit| reached(end, limit))
+        .count() as u32
 }
 
-// A storey's floor type, a void taken into account.
+// A storey's floor type, a void taken into account. Any other number than 1 is no void, and it answers a
+// number, since a storey may hold any.
 pub fn floor_type(storey: Storey) -> u32
     ensures { result ≡ floor_type storey }
 {
-    match storey.void {
-        1 if storey.floor < 3 => storey.floor + 1,
-        1 => 3,
-        _ => storey.floor,
+    if storey.void == 1 {
+        storey.floor.min(2) + 1
+    } else {
+        storey.floor
     }
 }
 

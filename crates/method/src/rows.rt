@@ -3,11 +3,15 @@
 // never hands over two of a kind side by side, where one could be taken for the other.
 //
 // Kinds and classes are numbers here, as they are in the rows, where any number may stand: an enum would
-// ask of callers that they are known, and each function says what it answers for the others too.
+// ask of callers that they are known, and each function says what it answers for the others too. For the
+// same reason a void, an age and whether a house was repaired stay numbers wherever they are handed over.
+//
+// A public function takes a house and a storey, or a wall's storey, side by side: callers hold them apart,
+// one house with the storeys one after the other, and would have to copy them together for each wall.
 
 // A house, by its row: its storeys, weight class (1 light, 2 heavy, 3 very heavy), zone in hundredths,
 // ground (1 ordinary, 2 very soft), foundation (1 to 3) and snow (0 none, 1 for 1 m cleared, 2 for 2 m, 3
-// for 2.5 m). Its age counts for deterioration alone.
+// for 2.5 m).
 #[derive(Clone, Copy, Debug, PartialEq, Eq)]
 pub struct House {
     pub storeys: u32,
@@ -63,7 +67,8 @@ pub struct Strengths {
     pub required: u64,
 }
 
-// The bands of a storey's ends a and b in a direction, each A as 0 to E as 4.
+// The bands of a storey's ends a and b in a direction, each A as 0 to E as 4. They stay numbers, since the
+// layout factor takes any number.
 #[derive(Clone, Copy, Debug, PartialEq, Eq)]
 pub struct Bands {
     pub a: u32,
