@@ -1,11 +1,12 @@
 -- The laws of faults: the first of two tests, and a test by what it asks. Assumes nothing.
-use Rattle.std.proofs.Common.{Result, Err, lit<, ◌≡◌, Bool, true, false, List, ℕ, ◌<◌, ◌≤◌, get_or, lt-ltb, le-ltb}
+use Rattle.std.proofs.Common.{Result, Ok, Err, IfErr, lit<, le_refl, rules, ◌≡◌, refl, ◌+◌, Bool, true, false, List, ℕ, ◌<◌, ◌≤◌, get_or, lt-ltb, le-ltb}
 use Rattle.answer.specs.declared.refusal.Reason.{Reason}
 use Rattle.answer.specs.declared.refusal.Reason.TheVariants.{SheetLength, Misprint, RowOutOfOrder, OutOfRange, TooManyWalls, EndsExceedStorey, MarkOnAbsentPart, NoParts, LentSpaceShort, NoSuchDay, DatesOutOfOrder}
 use Rattle.answer.specs.Told.{number_of}
-use Rattle.answer.specs.declared.refusal.Refusal.{Refusal}
+use Rattle.survey.specs.declared.row.RowFault.{RowFault}
 use Rattle.survey.specs.Table.{cell}
-use Rattle.survey.specs.Judgement.{Fault, fault_told, none, faulty, ◌then◌, test, outside}
+use Rattle.survey.specs.Internal.{told_by_row}
+use Rattle.survey.specs.Judgement.{Fault, fault, fault_told, none, faulty, ◌then◌, test, outside}
 
 -- Every reason has a number from 1 on, so that a fault is told from none by its number.
 pub number_some : (reason : Reason) → 0 < number_of reason
@@ -26,9 +27,18 @@ pub found : {f : Fault} (earlier later : Fault) → f ≡ earlier → 0 < f.numb
 unfolding ◌then◌
 found {f} earlier later e h = rw (← e, lt-ltb 0 f.number h)
 
-pub error_found : {tested : Result (Unit {0}) Refusal} (r : Refusal) (earlier later : Fault) → tested ≡ Err r → fault_told (Err r) ≡ earlier
+pub error_found : {tested : Result (Unit {0}) RowFault} (f : RowFault) (earlier later : Fault) → tested ≡ Err f → fault_told (Err f) ≡ earlier
     → fault_told tested ≡ earlier then later
-error_found r earlier later is e = rw is (found earlier later e (number_some r.reason))
+error_found f earlier later is e = rw is (found earlier later e (number_some f.reason))
+
+-- What a refusal by a row tells of the test: the fault that it found; and where there is no refusal, none.
+pub row_told : (row : ℕ) (tested : Result (Unit {0}) RowFault) → IfErr (told_by_row row tested) (λ r. (fault_told tested ≡ fault (number_of r.reason) r.column) × (r.row ≡ row + 1))
+row_told row (Ok done) = tt
+row_told row (Err f) = (refl, refl)
+
+pub row_clear : (row : ℕ) (tested : Result (Unit {0}) RowFault) {u : Unit {0}} → Ok u ≡ told_by_row row tested → (fault_told tested).number ≤ 0
+row_clear row (Ok done) e = le_refl 0
+row_clear row (Err f) e = search rules
 
 -- The earlier test found none.
 pub passed : {f : Fault} (earlier later : Fault) → none ≡ earlier → f ≡ later → f ≡ earlier then later

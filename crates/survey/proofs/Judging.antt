@@ -1,6 +1,6 @@
 -- What judging a table answers, case by case in the order of its tests. Assumes nothing.
-use Rattle.std.proofs.Common.{◌∙◌, Result, IfErr, Err, ◌≡◌, false, List, ℕ, ◌+◌, ◌<◌, ◌≤◌, le_refl, arith, eqb, length, below_none, below_more, ne_eqb, lt-ltb, le-ltb}
-use Rattle.answer.specs.Told.{told, counted, refusal, sheet_length, row_out_of_order}
+use Rattle.std.proofs.Common.{◌∙◌, Result, IfErr, Ok, Err, ◌≡◌, false, List, ℕ, ◌+◌, ◌<◌, ◌≤◌, le_refl, arith, eqb, length, below_none, below_more, ne_eqb, lt-ltb, le-ltb}
+use Rattle.answer.specs.Told.{told, number_of, counted, refusal, sheet_length, row_out_of_order}
 use Rattle.answer.specs.First.{first}
 use Rattle.answer.specs.Length.{rows_in, Whole}
 use Rattle.answer.proofs.Lengths.{rows_counted}
@@ -9,10 +9,11 @@ use Rattle.answer.specs.declared.refusal.Reason.TheVariants.{RowOutOfOrder}
 use Rattle.answer.specs.declared.refusal.Refusal.{Refusal}
 use Rattle.survey.specs.declared.row.Table.{Table}
 use Rattle.survey.specs.declared.row.Row.{Row}
+use Rattle.survey.specs.declared.row.RowFault.{RowFault}
 use Rattle.survey.specs.Table.{rows_due}
-use Rattle.survey.specs.Judgement.{Fault, fault_told, none, faulty, row_fault, judging}
-use Rattle.survey.specs.Internal.{JudgedTo}
-use Rattle.survey.proofs.Faults.{number_some, not_faulty}
+use Rattle.survey.specs.Judgement.{Fault, fault, fault_told, none, faulty, row_fault, judging}
+use Rattle.survey.specs.Internal.{JudgedTo, told_by_row}
+use Rattle.survey.proofs.Faults.{number_some, not_faulty, row_told, row_clear}
 
 -- Nothing lent, a row cut off, or too many rows.
 pub judging_length : (table : List ℕ) → rows_in 8 (length table) ≡ 0 → refusal sheet_length 0 0 ≡ judging table
@@ -58,21 +59,36 @@ module _ {table : List ℕ} {rows row : ℕ} (judged : JudgedTo table rows row) 
     unfolding judging
     judging_accepted h = rw (← so_many, some, no_fault, le-ltb rows rows (le_refl rows), le-ltb rows (rows_due table) (omega arith))
 
--- As the code's tests answer: the refusal of a row that is missing is judging's,
+-- As the code's tests answer: a row's fault is judging's refusal, and where it has none the next row is reached;
+module _ {table : List ℕ} {rows row : ℕ} (judged : JudgedTo table rows row) (h : row < rows) (tested : Result (Unit {0}) RowFault) (due : fault_told tested ≡ row_fault table row) where
+  pub fault_refused : {A : Type 0} {answer : Result A Refusal} (r : Refusal) → answer ≡ Err r → Err r ≡ told_by_row row tested
+      → IfErr answer (λ r. told (Err r) ≡ judging table)
+  fault_refused r is by_row =
+      let found : (fault_told tested ≡ fault (number_of r.reason) r.column) × (r.row ≡ row + 1) = rw (← by_row) at (row_told row tested) in
+      rw (is, found.1) (judging_fault judged h (rw (← found.0) due) (number_some r.reason))
+
+  pub fault_passed : {u : Unit {0}} → Ok u ≡ told_by_row row tested → JudgedTo table rows (row + 1)
+  fault_passed by_row = judging_goes_on judged h due (row_clear row tested by_row)
+
+-- the refusal of a row that is missing is judging's,
 module _ (self : Table) {at : ℕ} (judged : JudgedTo self.numbers.now self.rows at) where
   pub row_missing : {A : Type 0} {answer : Result A Refusal} (r : Refusal) → answer ≡ Err r → at < rows_due self.numbers.now
       → (at ≡ self.rows) × (r ≡ record { reason = RowOutOfOrder; row = at + 1; column = 1 }) → IfErr answer (λ r. told (Err r) ≡ judging self.numbers.now)
   row_missing r is due missing = rw (is, missing.1) (judging_short judged missing.0 due)
 
-  -- and so is a row's, and where there is none the next row is reached.
-  module _ (row : Row) (test : List ℕ → ℕ → Fault) (stands : (row.table ≡ self) × (row.at ≡ at)) (due : test self.numbers.now at ≡ row_fault self.numbers.now at) where
-    inside : at < self.rows
-    inside = rw stands.0 at (rw stands.1 at row.stands)
+  -- and of a row that stands there its fault is.
+  module _ (row : Row) (test : List ℕ → ℕ → Fault) (stands : (row.table ≡ self) × (row.at ≡ at)) (due : test self.numbers.now at ≡ row_fault self.numbers.now at)
+      (tested : Result (Unit {0}) RowFault) (told_is : fault_told tested ≡ test row.table.numbers.now row.at)
+    where
+      inside : at < self.rows
+      inside = rw stands.0 at (rw stands.1 at row.stands)
 
-    pub row_refused : {A : Type 0} {answer : Result A Refusal} (r : Refusal) → answer ≡ Err r → fault_told (Err r) ≡ test row.table.numbers.now row.at
-        → r.row ≡ row.at + 1 → IfErr answer (λ r. told (Err r) ≡ judging self.numbers.now)
-    row_refused r is fault place =
-        rw (is, rw stands.1 at place) (judging_fault judged inside (rw (stands.0, stands.1) at fault ∙ due) (number_some r.reason))
+      fault_due : fault_told tested ≡ row_fault self.numbers.now at
+      fault_due = rw (stands.0, stands.1) at told_is ∙ due
 
-    pub row_passed : none ≡ test row.table.numbers.now row.at → JudgedTo self.numbers.now self.rows (at + 1)
-    row_passed clear = judging_goes_on judged inside (rw (stands.0, stands.1) at clear ∙ due) (le_refl 0)
+      pub row_refused : {A : Type 0} {answer : Result A Refusal} (r : Refusal) → answer ≡ Err r → Err r ≡ told_by_row row.at tested
+          → IfErr answer (λ r. told (Err r) ≡ judging self.numbers.now)
+      row_refused r is by_row = fault_refused judged inside tested fault_due r is (rw stands.1 at by_row)
+
+      pub row_passed : {u : Unit {0}} → Ok u ≡ told_by_row row.at tested → JudgedTo self.numbers.now self.rows (at + 1)
+      row_passed by_row = fault_passed judged inside tested fault_due (rw stands.1 at by_row)

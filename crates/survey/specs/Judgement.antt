@@ -9,7 +9,7 @@ use Rattle.calendar.specs.Days.{is_day}
 use Rattle.survey.specs.Table.{cell, storeys, ends_storey, first_wall, parts_row, dates_row, rows_due}
 use Rattle.survey.specs.declared.ranges.Range.{Range}
 use Rattle.survey.specs.Ranges.{lows, highs, house_columns, storey_columns, ends_columns, wall_columns, parts_columns, dates_columns}
-use Rattle.answer.specs.declared.refusal.Refusal.{Refusal}
+use Rattle.survey.specs.declared.row.RowFault.{RowFault}
 
 -- A row's fault: a refusal's number and column, from 1; number 0 where the row has none.
 pub record Fault : Type 0 where
@@ -23,9 +23,9 @@ abbrev pub none : Fault
 none = fault 0 0
 
 -- What the code's test of a row tells of the row.
-abbrev pub fault_told : Result (Unit {0}) Refusal → Fault
+abbrev pub fault_told : Result (Unit {0}) RowFault → Fault
 fault_told (Ok _) = none
-fault_told (Err refused) = fault (number_of refused.reason) refused.column
+fault_told (Err found) = fault (number_of found.reason) found.column
 
 abbrev pub faulty : Fault → Bool
 faulty f = ltb 0 f.number

@@ -1,6 +1,6 @@
 // The columns of a table's rows, from 0, by the words of document 01, "The sheet and the table", and of
 // document 02, requests 1 (snow), 3 (dates) and 5 (repaired). Column 6 of the house row, once its age, is
-// unused.
+// unused. They are constants and no enum, since one number is the column of several things, by the row's kind.
 
 // In every row its kind; in every row but the house's, the parts' and the dates' its storey.
 pub const KIND: usize = 0;

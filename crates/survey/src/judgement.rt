@@ -13,6 +13,8 @@ use crate::row::{Row, Table};
 use crate::table::cell;
 use answer::{Answer, ROW, Reason, Refusal, rows_in};
 
+// A table that is judged as far as a row has no type of its own: each step takes up at another row of the
+// same table, and is called once.
 impl<'a> Table<'a> {
     // The refusal of a row that is missing, or stands after the last that is due.
     fn out_of_order(&self, at: usize) -> Refusal
@@ -45,10 +47,12 @@ impl<'a> Table<'a> {
         ensures judged { IfOk result (λ _. JudgedTo self.now.numbers.now self.now.rows (first_wall self.now.numbers.now)) }
     {
         for at in 1..self.first_ends() {
-            self.row(at)?.check_storey()?;
+            let row = self.row(at)?;
+            row.refused(row.check_storey())?;
         }
         for at in self.first_ends()..self.first_wall() {
-            self.row(at)?.check_ends()?;
+            let row = self.row(at)?;
+            row.refused(row.check_ends())?;
         }
         Ok(())
     }
@@ -66,7 +70,7 @@ impl<'a> Table<'a> {
             if !row.is_wall() {
                 return Ok(at);
             }
-            row.check_wall()?;
+            row.refused(row.check_wall())?;
         }
         Ok(self.rows)
     }
@@ -78,9 +82,11 @@ impl<'a> Table<'a> {
         ensures refused { IfErr result (λ refusal. told (Err refusal) ≡ judging self.now.numbers.now) }
         ensures accepted { IfOk result (λ _. counted self.now.rows ≡ judging self.now.numbers.now) }
     {
-        self.row(parts)?.check_parts()?;
+        let row = self.row(parts)?;
+        row.refused(row.check_parts())?;
         let dates = parts + 1;
-        self.row(dates)?.check_dates()?;
+        let row = self.row(dates)?;
+        row.refused(row.check_dates())?;
         if dates + 1 < self.rows {
             return Err(self.out_of_order(dates + 1));
         }
@@ -99,7 +105,7 @@ pub fn judge(table: &[u32]) -> Answer
         storeys: cell(table, 0, STOREYS),
     };
     let house = Row { table, at: 0 };
-    house.check_house()?;
+    house.refused(house.check_house())?;
     table.check_storeys_and_ends()?;
     let parts = table.check_walls()?;
     table.check_last_rows(parts)?;

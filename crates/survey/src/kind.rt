@@ -1,4 +1,4 @@
-// The kinds of a table's rows and of a report's.
+// The kinds of a table's rows and of a report's, and the types of a wall.
 
 // Document 01, "The sheet and the table" and "The report", and document 02, request 3: the number in a row's
 // first column. A report has a row of results for each storey and direction, and the verdict's.
@@ -12,4 +12,12 @@ pub enum RowKind {
     Result = 6,
     Verdict = 7,
     Dates = 8,
+}
+
+// Document 01, "The sheet and the table", "Walls": the number in a wall row's last column.
+#[derive(Clone, Copy, Debug, PartialEq, Eq)]
+pub enum WallType {
+    Solid = 1,
+    Window = 2,
+    FullHeightOpening = 3,
 }

@@ -18,7 +18,7 @@ mod table;
 mod walls;
 
 pub use judgement::judge;
-pub use kind::RowKind;
+pub use kind::{RowKind, WallType};
 pub use places::{dates_row, parts_row};
 pub use table::cell;
 pub use walls::{storey_run, storey_walls};

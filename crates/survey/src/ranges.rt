@@ -1,13 +1,14 @@
 // The numbers that a column may hold, and the columns of each kind of row, as specs/Ranges.antt has them.
-ghost use Rattle.std.specs.Prelude.{◌≡◌, ◌<◌};
+ghost use Rattle.std.specs.Prelude.{◌≡◌, ◌<◌, ◌&&◌, leb};
 ghost use Rattle.survey.specs.Table.{storeys, ends_storey};
 ghost use Rattle.survey.specs.Ranges.{◌to◌, exactly, zone, is_opening, solid, house_columns, storey_columns, ends_columns, wall_columns, parts_columns, dates_columns};
 
 use crate::columns::{WALL_TYPE, ZONE};
-use crate::kind::RowKind;
+use crate::kind::{RowKind, WallType};
 use crate::row::Row;
 
-// From `low` to `high`, both included.
+// From `low` to `high`, both included. The library's `RangeInclusive` is no plainer here: it is an iterator,
+// so it is not `Copy` and holds more than the two numbers that a column has.
 #[derive(Clone, Copy, Debug, PartialEq, Eq)]
 pub struct Range {
     pub low: u32,
@@ -34,9 +35,16 @@ impl Range {
     {
         Range::new(number, number)
     }
+
+    pub(crate) fn contains(&self, number: u32) -> bool
+        ensures { result ≡ (leb self.now.low number && leb number self.now.high) }
+    {
+        (self.low..=self.high).contains(&number)
+    }
 }
 
-// The zone of that number; 100 where no zone has it.
+// The zone of that number; 100 where no zone has it. It is a number and no enum, since it is what the column
+// may hold.
 #[tactic(auto, unfolding(crate::specs::Ranges::zone))]
 fn zone(number: u32) -> u32
     ensures { result ≡ zone number }
@@ -51,7 +59,7 @@ fn zone(number: u32) -> u32
 fn is_opening(number: u32) -> bool
     ensures { result ≡ is_opening number }
 {
-    matches!(number, 2 | 3)
+    number == WallType::Window as u32 || number == WallType::FullHeightOpening as u32
 }
 
 // A storey's row.
@@ -120,7 +128,8 @@ impl Row<'_> {
         ]
     }
 
-    // The storey that is due in a row of ends. It is also the row of that storey.
+    // The storey that is due in a row of ends. It is also the row of that storey. A type for rows of ends
+    // would save this, the next and `check_ends` a clause each, and take as many lines to make.
     pub(crate) fn ends_storey(&self) -> usize
         requires { storeys self.now.table.numbers.now < self.now.at }
         ensures { result ≡ ends_storey self.now.table.numbers.now self.now.at }

@@ -1,18 +1,19 @@
 // A table that is judged, and its rows: their numbers, their refusals, and whether their numbers lie in the
 // ranges of their columns.
-ghost use Rattle.std.specs.Prelude.{◌≡◌, ◌<◌, ◌≤◌, ◌+◌, ◌*◌, length, IfErr};
+ghost use Rattle.std.specs.Prelude.{◌≡◌, ◌<◌, ◌≤◌, ◌+◌, ◌*◌, length};
 ghost use Rattle.answer.specs.Length.{Whole};
 ghost use Rattle.survey.specs.Table.{cell, first_ends, is_wall, first_wall};
 ghost use Rattle.survey.specs.Ranges.{lows, highs};
 ghost use Rattle.survey.specs.Judgement.{fault_told, outside, leftmost, columns_fault};
-ghost use Rattle.survey.specs.Internal.{place_below};
+ghost use Rattle.survey.specs.Internal.{place_below, told_by_row};
 
 use crate::columns::KIND;
-use crate::kind::RowKind;
 use crate::ranges::Range;
+use crate::table::is_wall;
 use answer::{ROW, Reason, Refusal};
 
 // A table of whole rows, not too many. `storeys` are the house's, by its row, whether or not that has a fault.
+// The numbers are lent in a row as document 01 has them, and `rows` are as `rows_in` counted them.
 #[derive(Clone, Copy)]
 pub struct Table<'a> {
     pub numbers: &'a [u32],
@@ -36,6 +37,26 @@ impl Table<'_> {
     }
 }
 
+// What is wrong with a row: why, and by which column, which counts from 1 here as in what is told.
+#[derive(Clone, Copy, Debug, PartialEq, Eq)]
+pub struct RowFault {
+    pub reason: Reason,
+    pub column: u32,
+}
+
+impl RowFault {
+    // The column counts from 0.
+    pub(crate) fn new(reason: Reason, column: usize) -> Self
+        requires { column < 8 }
+        ensures { result ≡ record { reason = reason; column = column + 1 } }
+    {
+        RowFault {
+            reason,
+            column: column as u32 + 1,
+        }
+    }
+}
+
 // A row of such a table, counted from 0.
 #[derive(Clone, Copy)]
 pub struct Row<'a> {
@@ -55,30 +76,31 @@ impl Row<'_> {
     pub(crate) fn is_wall(&self) -> bool
         ensures { result ≡ is_wall self.now.table.numbers.now self.now.at }
     {
-        self.number(KIND) == RowKind::Wall as u32
+        is_wall(self.table.numbers, self.at)
     }
 
-    // The refusal of this row by a column, which counts from 0 here and from 1 in what is told.
-    pub(crate) fn refusal(&self, reason: Reason, column: usize) -> Refusal
-        requires { column < 8 }
-        ensures { result ≡ record { reason = reason; row = self.now.at + 1; column = column + 1 } }
+    // What a test of this row answers, as a refusal by this row where it found a fault.
+    pub(crate) fn refused(&self, tested: Result<(), RowFault>) -> Result<(), Refusal>
+        ensures { result ≡ told_by_row self.now.at tested }
     {
-        Refusal {
-            reason,
+        let Err(fault) = tested else {
+            return Ok(());
+        };
+        Err(Refusal {
+            reason: fault.reason,
             row: self.at as u32 + 1,
-            column: column as u32 + 1,
-        }
+            column: fault.column,
+        })
     }
 
-    // Whether the number in a column lies outside its range.
+    // Whether the number in a column lies outside its range. By column, since the ranges and the row's numbers
+    // have it in common.
     #[tactic(auto, unfolding(crate::specs::Judgement::outside))]
     fn is_outside(&self, ranges: &[Range; 8], column: usize) -> bool
         requires { column < 8 }
         ensures { result ≡ outside (lows ranges.now) (highs ranges.now) self.now.table.numbers.now self.now.at column }
     {
-        let number = self.number(column);
-        let range = ranges[column];
-        number < range.low || range.high < number
+        !ranges[column].contains(self.number(column))
     }
 
     // The leftmost column whose number lies outside its range.
@@ -90,15 +112,14 @@ impl Row<'_> {
 
     // Refusal 3 or 4, where one is due. The first `due` columns say which row this is.
     #[tactic(auto, using(crate::proofs::RowFaults::column_tests), unfolding(crate::specs::Judgement::wrong_column))]
-    pub(crate) fn check_columns(&self, ranges: &[Range; 8], due: usize) -> Result<(), Refusal>
+    pub(crate) fn check_columns(&self, ranges: &[Range; 8], due: usize) -> Result<(), RowFault>
         requires { due ≤ 8 }
-        ensures fault { fault_told result ≡ columns_fault due ranges.now self.now.table.numbers.now self.now.at }
-        ensures row { IfErr result (λ refusal. refusal.row ≡ self.now.at + 1) }
+        ensures { fault_told result ≡ columns_fault due ranges.now self.now.table.numbers.now self.now.at }
     {
         match self.leftmost(ranges) {
             None => Ok(()),
-            Some(column) if column < due => Err(self.refusal(Reason::RowOutOfOrder, KIND)),
-            Some(column) => Err(self.refusal(Reason::OutOfRange, column)),
+            Some(column) if column < due => Err(RowFault::new(Reason::RowOutOfOrder, KIND)),
+            Some(column) => Err(RowFault::new(Reason::OutOfRange, column)),
         }
     }
 }

@@ -1,23 +1,17 @@
 // A table's numbers, by row and column.
-ghost use Rattle.std.specs.Prelude.{◌≡◌};
+ghost use Rattle.std.specs.Prelude.{◌≡◌, unwrap_or};
 ghost use Rattle.survey.specs.Table.{cell, is_wall};
 
 use crate::columns::KIND;
 use crate::kind::RowKind;
 use answer::ROW;
 
-// The number in any row and column, both from 0; 0 beyond the table.
-fn any_cell(table: &[u32], row: usize, column: usize) -> u32
-    ensures { result ≡ cell table.now row column }
+// The number in any row and column, both from 0; none beyond the table.
+fn any_cell(table: &[u32], row: usize, column: usize) -> Option<u32>
+    ensures { unwrap_or result 0 ≡ cell table.now row column }
 {
-    if table.len() / ROW < row {
-        return 0;
-    }
-    let from = ROW * row;
-    if table.len() - from <= column {
-        return 0;
-    }
-    table[from + column]
+    let at = row.checked_mul(ROW)?.checked_add(column)?;
+    table.get(at).copied()
 }
 
 // The number in a row and a column, both from 0; 0 beyond the table. Any table, row and column will do,
@@ -30,7 +24,7 @@ pub fn cell(table: &[u32], row: usize, column: usize) -> u32
     if row < table.len() / ROW && column < ROW {
         return table[ROW * row + column];
     }
-    any_cell(table, row, column)
+    any_cell(table, row, column).unwrap_or(0)
 }
 
 // Whether a row is a wall row.

@@ -15,8 +15,8 @@ fn is_wall_of(table: &[u32], storey: u32, row: usize) -> bool
     is_wall(table, row) && cell(table, row, STOREY) == storey
 }
 
-// The first row that is a wall of a storey, or the count of rows: an empty run then starts there, so no
-// caller needs an `Option`.
+// The first row that is a wall of a storey, or the count of rows: an empty run then starts there. With an
+// `Option`, `storey_run` would have a case more.
 fn run_start(table: &[u32], storey: u32) -> usize
     ensures { result ≡ run_start table.now storey }
 {
@@ -54,8 +54,8 @@ pub fn storey_run(table: &[u32], storey: u32) -> &[u32]
 pub fn storey_walls(table: &[u32], storey: u32) -> &[u32]
     ensures { result.now ≡ storey_walls table.now storey }
 {
-    match judge(table) {
-        Err(_) => &table[0..0],
-        Ok(_) => storey_run(table, storey),
+    if judge(table).is_err() {
+        return &[];
     }
+    storey_run(table, storey)
 }

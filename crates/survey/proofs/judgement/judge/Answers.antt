@@ -1,9 +1,8 @@
 -- `survey::judgement::judge` meets its contract. Assumes nothing.
-use Rattle.std.proofs.Common.{◌≡◌, Err, ◌∙◌, le_refl, rules}
+use Rattle.std.proofs.Common.{◌≡◌, Err, ◌∙◌, refl, rules}
 use Rattle.answer.proofs.Lengths.{refused_whole, counted_whole}
 use Rattle.survey.proofs.RowFaults.{row_house}
-use Rattle.survey.proofs.Judging.{judging_length, judging_begins, judging_fault, judging_goes_on}
-use Rattle.survey.proofs.Faults.{number_some}
+use Rattle.survey.proofs.Judging.{judging_length, judging_begins, fault_refused, fault_passed}
 use Rattle.survey.proofs.judgement.judge.Goals as goal
 
 pub returns-in_err-rows : goal.returns-in_err-rows
@@ -15,14 +14,14 @@ returns-in_err-rows c =
 pub invariant_of-table : goal.invariant_of-table
 invariant_of-table c = record { whole = (counted_whole 8 _ c.in_ok-rows.ensures).1; of_house = c.cell.ensures }
 
-pub returns-in_err-check_house : goal.returns-in_err-check_house
-returns-in_err-check_house c =
+-- The house's row is the first that is judged.
+pub returns-in_err-refused : goal.returns-in_err-refused
+returns-in_err-refused c =
     let size = (counted_whole 8 _ c.in_ok-rows.ensures).1 in
-    let came : c.from_residual-in_err-check_house.result ≡ Err c.in_err-check_house.field-0.0 = search rules in
-    rw (came, c.in_err-check_house.ensures.row)
-    (judging_fault (judging_begins size) size.some (c.in_err-check_house.ensures.fault ∙ row_house _) (number_some _))
+    let came : c.from_residual-in_err-refused.result ≡ Err c.in_err-refused.field-0.0 = search rules in
+    rw came (fault_refused (judging_begins size) size.some c.check_house.result (c.check_house.ensures ∙ row_house _) {A = Unit {0}} {answer = Err c.in_err-refused.field-0.0} _ refl c.in_err-refused.ensures)
 
 pub check_storeys_and_ends-requires : goal.check_storeys_and_ends-requires
 check_storeys_and_ends-requires c =
     let size = (counted_whole 8 _ c.in_ok-rows.ensures).1 in
-    judging_goes_on (judging_begins size) size.some (c.in_ok-check_house.ensures.fault ∙ row_house _) (le_refl 0)
+    fault_passed (judging_begins size) size.some c.check_house.result (c.check_house.ensures ∙ row_house _) c.in_ok-refused.ensures

@@ -1,11 +1,10 @@
 -- `survey::row::Table::check_walls` meets its contract. Assumes nothing.
-use Rattle.std.proofs.Common.{◌≡◌, Err, false, List, ℕ, ◌≤◌, sym, subst, ◌∙◌, refl, le_refl, arith, rules}
+use Rattle.std.proofs.Common.{◌≡◌, false, List, ℕ, ◌≤◌, sym, subst, ◌∙◌, refl, arith, rules}
 use Rattle.survey.specs.Table.{is_wall}
 use Rattle.survey.specs.Internal.{JudgedTo}
 use Rattle.survey.proofs.Positions.{beyond, wall_before_parts, parts_row_here}
 use Rattle.survey.proofs.RowFaults.{row_wall}
-use Rattle.survey.proofs.Judging.{judging_fault, judging_goes_on}
-use Rattle.survey.proofs.Faults.{number_some}
+use Rattle.survey.proofs.Judging.{fault_refused, fault_passed}
 use Rattle.survey.proofs.row.Table.check_walls.Goals as goal
 
 -- There is no wall where the table ends.
@@ -16,17 +15,15 @@ pub returns-then-not-is_wall-clause-judged : goal.returns-then-not-is_wall-claus
 returns-then-not-is_wall-clause-judged c =
     (parts_row_here _ _ (omega arith) c.loop-at.invariant.1 (sym c.is_wall.ensures ∙ c.if-not-is_wall.true), c.loop-at.invariant.0)
 
-pub returns-in_err-check_wall-clause-refused : goal.returns-in_err-check_wall-clause-refused
-returns-in_err-check_wall-clause-refused c =
+pub returns-in_err-refused-clause-refused : goal.returns-in_err-refused-clause-refused
+returns-in_err-refused-clause-refused c =
     let before = wall_before_parts _ _ (omega arith) c.loop-at.invariant.1 (sym c.is_wall.ensures ∙ c.if-not-is_wall.false) in
-    let came : c.from_residual.result ≡ Err c.in_err-check_wall.field-0.0 = search rules in
-    rw (came, c.in_err-check_wall.ensures.row)
-    (judging_fault c.loop-at.invariant.0 c.loop-at-test.true (c.in_err-check_wall.ensures.fault ∙ row_wall _ _ (omega arith) (omega arith) (omega arith) before) (number_some _))
+    fault_refused c.loop-at.invariant.0 c.loop-at-test.true c.check_wall.result (c.check_wall.ensures ∙ row_wall _ _ (omega arith) (omega arith) (omega arith) before) c.in_err-refused.field-0.0 (search rules) c.in_err-refused.ensures
 
 pub loop-at-preserved : goal.loop-at-preserved
 loop-at-preserved c =
     let before = wall_before_parts _ _ (omega arith) c.loop-at.invariant.1 (sym c.is_wall.ensures ∙ c.if-not-is_wall.false) in
-    (judging_goes_on c.loop-at.invariant.0 c.loop-at-test.true (c.in_ok-check_wall.ensures.fault ∙ row_wall _ _ (omega arith) (omega arith) (omega arith) before) (le_refl 0), omega (arith, before))
+    (fault_passed c.loop-at.invariant.0 c.loop-at-test.true c.check_wall.result (c.check_wall.ensures ∙ row_wall _ _ (omega arith) (omega arith) (omega arith) before) c.in_ok-refused.ensures, omega (arith, before))
 
 pub returns-clause-judged : goal.returns-clause-judged
 returns-clause-judged c =

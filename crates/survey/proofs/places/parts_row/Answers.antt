@@ -1,11 +1,11 @@
--- `survey::places::after_walls` meets its contract: the first row from the first wall on that is no wall is the parts row. Assumes nothing.
+-- `survey::places::parts_row` meets its contract: the first row from the first wall on that is no wall is the parts row. Assumes nothing.
 use Rattle.std.proofs.Common.{ℕ, Bool, ◌+◌, ◌*◌, ◌∙◌, refl, length, rules, tests, arith}
 use Rattle.std.proofs.lemmas.Iterator.{YieldsList-from_range}
 use Rattle.std.proofs.lemmas.Iterator.Search.{YieldsList-from_take_while}
 use Rattle.std.proofs.lemmas.Iterator.Consumers.{count_from_yields_List}
 use Rattle.survey.specs.Table.{is_wall, wall_rows}
 use Rattle.survey.proofs.FirstInRange.{prefix_count}
-use Rattle.survey.proofs.places.after_walls.Goals as goal
+use Rattle.survey.proofs.places.parts_row.Goals as goal
 
 pub returns-clause-row : goal.returns-clause-row
 unfolding wall_rows
