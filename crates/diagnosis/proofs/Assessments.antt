@@ -13,11 +13,13 @@ use Rattle.diagnosis.specs.Rows.{start_of_work, items_of, repaired, age}
 use Rattle.diagnosis.specs.declared.assessment.Assessment.{Assessment}
 use Rattle.method.specs.declared.scores.Quotient.{Quotient}
 use Rattle.diagnosis.specs.declared.assessment.HouseAssessment.{HouseAssessment}
-use Rattle.diagnosis.specs.House.{layout, deterioration, strengths_with, quotient_with, house_verdict, grants_last_day, started_by_31_may_1981, assessment}
+use Rattle.method.specs.declared.deterioration.Fraction.{Fraction}
+use Rattle.diagnosis.specs.declared.held.HeldSums.{HeldSums}
+use Rattle.diagnosis.specs.House.{InHouse, layout, deterioration, strengths_with, quotient_with, house_verdict, grants_last_day, started_by_31_may_1981, assessment}
 use Rattle.diagnosis.specs.Answers.{six_numbers, record_of}
 use Rattle.diagnosis.specs.Report.{result_rows, report_rows, report_lines, report_bytes, reporting, after_reporting}
 use Rattle.diagnosis.specs.Premises.{storey_at, direction_at, six, no_assessment, Printable}
-use Rattle.diagnosis.specs.Internal.{assessment_at, places_of, WorkedOut, record_by, bytes_by, reporting_by, after_reporting_by}
+use Rattle.diagnosis.specs.Internal.{Assessable, held_sums, assessment_at, places_of, WorkedOut, record_by, bytes_by, reporting_by, after_reporting_by}
 use Rattle.diagnosis.proofs.AcceptedTables.{storeys_few, required_within}
 use Rattle.diagnosis.proofs.Sums.{storey_held_most}
 use Rattle.diagnosis.proofs.SixPlaces.{six_at, six_set}
@@ -36,6 +38,17 @@ house_factor_bounded table = repair_bounded _ (repaired table) (deterioration_bo
 
 pub lower_some : (table : List ℕ) → 0 < (deterioration table).lower
 lower_some table = (house_factor_bounded table).lower_positive
+
+-- A storey and direction of an accepted table, by what its own walls hold.
+pub assessable : (table : List ℕ) → (judging table).number ≡ 0 → (storey direction : ℕ) {sums : HeldSums} {factor : Fraction} → InHouse table storey direction
+    → sums ≡ held_sums table storey direction → factor ≡ deterioration table → Assessable table storey direction sums factor
+assessable table h storey direction here sums factor = record {
+  in_house = here;
+  all_most = rw sums (storey_held_most table h storey direction);
+  a_is = rw sums refl;
+  b_is = rw sums refl;
+  factor_is = factor;
+}
 
 -- What holds of each number of storeys.
 by_storeys : {P : Type 0} (n : ℕ) → n ≤ 3 → (n ≡ 0 → P) → (n ≡ 1 → P) → (n ≡ 2 → P) → (n ≡ 3 → P) → P

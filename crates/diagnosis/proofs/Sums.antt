@@ -1,6 +1,5 @@
 -- What a storey's walls hold, wall by wall: with one wall more, and at most. Assumes nothing.
-use Rattle.std.proofs.Common.{◌≡◌, ap, Bool, List, ℕ, ◌+◌, ◌*◌, ◌/◌, ◌<◌, ◌≤◌, zero-add, le_refl, le_trans, mul-le-mul_right, arith, length, drop, sym, ◌∙◌, ◌++◌, length-append, length-drop, take_at, drop_at, lit≤, lit<}
-use Rattle.std.proofs.lemmas.List.{drop-drop}
+use Rattle.std.proofs.Common.{◌≡◌, ap, Bool, List, ℕ, ◌+◌, ◌*◌, ◌/◌, ◌<◌, ◌≤◌, zero-add, le_refl, le_trans, mul-le-mul_right, arith, length, ◌∙◌, lit≤, lit<}
 use Rattle.answer.specs.Length.{most_walls}
 use Rattle.answer.specs.Lists.{part}
 use Rattle.answer.proofs.Lists.{part_at}
@@ -18,28 +17,6 @@ use Rattle.diagnosis.specs.declared.held.HeldSums.{HeldSums}
 use Rattle.diagnosis.specs.Rows.{house_of, end_a, end_b, wall_of}
 use Rattle.diagnosis.specs.House.{share, in_direction, solid_at_end, held, end_held}
 use Rattle.diagnosis.specs.Internal.{sums_over, Addable, with_wall, held_sums, no_sums}
-
--- The chunk that a loop over a storey's walls takes is the next wall's row, and what it leaves is the rest of them.
-pub record NextWall (walls : List ℕ) (row : ℕ) (chunk left : List ℕ) : Type 0 where
-  pub inside : row < length walls / 8
-  pub is_row : chunk ≡ part 8 row walls
-  pub leaves : left ≡ drop (8 * (row + 1)) walls
-
-pub next_wall : (walls : List ℕ) (row : ℕ) {rest chunk left : List ℕ} → rest ≡ drop (8 * row) walls → rest ≡ chunk ++ left → length chunk ≡ 8
-    → NextWall walls row chunk left
-unfolding part
-next_wall walls row {chunk = chunk} {left = left} so_far cut long =
-    let e : drop (8 * row) walls ≡ chunk ++ left = sym so_far ∙ cut in
-    let next : 8 * row + 8 ≡ 8 * (row + 1) = omega arith in
-    record {
-      inside = omega (arith, ap length e, length-drop (8 * row) walls, length-append chunk left);
-      is_row = rw e (sym (take_at chunk left 8 long));
-      leaves = rw (← next, ← drop-drop 8 (8 * row) walls, e) (sym (drop_at chunk left 8 long));
-    }
-
--- Where less than a row is left, every wall has been taken.
-pub last_wall : (walls : List ℕ) (row : ℕ) {rest : List ℕ} → row ≤ length walls / 8 → rest ≡ drop (8 * row) walls → length rest < 8 → row ≡ length walls / 8
-last_wall walls row within so_far short = omega (arith, ap length so_far, length-drop (8 * row) walls)
 
 module _ (walls : List ℕ) (row : ℕ) where
   wall_cell : (column : ℕ) → column < 8 → cell (part 8 row walls) 0 column ≡ cell walls row column

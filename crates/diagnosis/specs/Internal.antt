@@ -77,10 +77,13 @@ held_sums table storey direction = record {
 
 -- A house worked out
 
--- A storey and direction of a house, by what it holds and the house's deterioration factor, which are given.
+-- A storey and direction of a house, by what it holds, which is any strength up to 60,000 kN, what its ends hold, and the house's deterioration factor:
+-- all of these are given.
 pub record Assessable (table : List ℕ) (storey direction : ℕ) (sums : HeldSums) (factor : Fraction) : Type 0 where
   pub in_house : InHouse table storey direction
-  pub sums_are : sums ≡ held_sums table storey direction
+  pub all_most : sums.all ≤ most_held
+  pub a_is : sums.a ≡ end_held table storey direction end_a
+  pub b_is : sums.b ≡ end_held table storey direction end_b
   pub factor_is : factor ≡ deterioration table
 
 -- Place by place, and all of it.

@@ -1,15 +1,15 @@
 // A table that is accepted, and what its rows say, each by value: what `method` takes, and the dates. The
 // struct of a row is filled here and nowhere else.
-ghost use Rattle.std.specs.Prelude.{◌≡◌, Err, IfOk, IfErr};
+ghost use Rattle.std.specs.Prelude.{◌≡◌, Err, IfOk, IfErr, eqb};
 ghost use Rattle.answer.specs.Told.{told};
-ghost use Rattle.survey.specs.Table.{rows_due};
+ghost use Rattle.survey.specs.Table.{rows_due, parts_row};
 ghost use Rattle.survey.specs.Judgement.{judging};
 ghost use Rattle.survey.specs.Walls.{storey_walls};
 ghost use Rattle.diagnosis.specs.Rows.{storey_of, storey_part, end_part, wall_of, items_of, repaired, dates_of};
 ghost use Rattle.diagnosis.specs.House.{InHouse};
 ghost use Rattle.diagnosis.specs.Premises.{Stands, HouseOf};
 
-use answer::Refusal;
+use answer::{ROW, Refusal};
 use method::{House, HousePart, Items, Storey, Wall};
 use survey::columns::{
     COMPLETION, END_AREA, FLOOR_AREA, FLOOR_TYPE, FOUNDATION, GROUND, JOINT, LENGTH, MARKED,
@@ -41,14 +41,14 @@ pub struct Dates {
 }
 
 // A wall, by its row.
-pub(crate) fn wall_of(wall: &[u32]) -> Wall
+pub(crate) fn wall_of(wall: &[u32; ROW]) -> Wall
     ensures { result ≡ wall_of wall.now 0 }
 {
     Wall {
-        strength: cell(wall, 0, STRENGTH),
-        length: cell(wall, 0, LENGTH),
-        joint: cell(wall, 0, JOINT),
-        walltype: cell(wall, 0, WALL_TYPE),
+        strength: wall[STRENGTH],
+        length: wall[LENGTH],
+        joint: wall[JOINT],
+        walltype: wall[WALL_TYPE],
     }
 }
 
@@ -68,8 +68,8 @@ fn house_of(table: &[u32]) -> House
 }
 
 // A table that is accepted, what its house row says, and how many rows it has: the last is the dates row,
-// and the parts row stands before it.
-#[derive(Clone, Copy)]
+// and the parts row stands before it. (The count of rows is what judging answers.)
+#[derive(Clone, Copy, Debug, PartialEq, Eq)]
 pub struct AcceptedTable<'a> {
     pub table: &'a [u32],
     pub house: House,
@@ -138,22 +138,29 @@ impl<'a> AcceptedTable<'a> {
         storey_run(self.table, storey)
     }
 
+    // The parts row, counted from 0.
+    fn parts_row(&self) -> usize
+        ensures { result ≡ parts_row self.now.table.now }
+    {
+        self.rows - 2
+    }
+
     // The two sets of the parts row.
     pub(crate) fn items(&self) -> Items
         ensures { result ≡ items_of self.now.table.now }
     {
-        let parts = self.rows - 2;
+        let parts = self.parts_row();
         Items {
             present: cell(self.table, parts, PRESENT),
             marked: cell(self.table, parts, MARKED),
         }
     }
 
-    // 1 where the house was repaired, else 0, by the parts row.
-    pub(crate) fn repaired(&self) -> u32
-        ensures { result ≡ repaired self.now.table.now }
+    // Whether the house was repaired, by the parts row.
+    pub(crate) fn repaired(&self) -> bool
+        ensures { result ≡ eqb (repaired self.now.table.now) 1 }
     {
-        cell(self.table, self.rows - 2, REPAIRED)
+        cell(self.table, self.parts_row(), REPAIRED) == 1
     }
 
     // The dates row.

@@ -21,8 +21,9 @@ pub struct Assessment {
     pub quotient: Quotient,
 }
 
-// What is worked out for a house.
-#[derive(Clone, Copy)]
+// What is worked out for a house. The places are six and the count stands beside them, as in the record of
+// document 01: nothing is allocated.
+#[derive(Clone, Copy, Debug, PartialEq, Eq)]
 pub struct HouseAssessment {
     // By storey from the ground up, and in each storey direction X, then direction Y; all 0 where there
     // is no such storey.
@@ -36,7 +37,11 @@ pub struct HouseAssessment {
     pub ghost printable: { Printable places count factor },
 }
 
-// What stands in the places of a storey that the house lacks.
+// No score is above it.
+const HIGHEST_SCORE: u32 = 999;
+
+// What stands in the places of a storey that the house lacks. It is written out, as `method` gives its
+// `Quotient` no `Default`.
 const NO_ASSESSMENT: Assessment = Assessment {
     held: 0,
     required: 0,
@@ -51,18 +56,17 @@ const NO_ASSESSMENT: Assessment = Assessment {
 
 impl AcceptedTable<'_> {
     ghost use Rattle.std.specs.Prelude.{◌≡◌};
-    ghost use Rattle.diagnosis.specs.House.{deterioration, assessment};
+    ghost use Rattle.diagnosis.specs.House.{deterioration, assessment_with};
     ghost use Rattle.diagnosis.specs.Internal.{part_band, Assessable, WorkedOut, direction_number};
 
     // The deterioration factor, by the house's age on the survey day and by whether it was repaired.
-    #[tactic(auto, unfolding(crate::specs::House::deterioration))]
     fn deterioration(&self) -> Fraction
         ensures { result ≡ deterioration self.now.table.now }
     {
         let dates = self.dates();
         let age = age_on(dates.completion, dates.survey);
         let factor = deterioration_factor(self.items(), age);
-        after_repair(factor, self.repaired())
+        after_repair(factor, u32::from(self.repaired()))
     }
 
     // The band of an end, by its storey's narrow factor and what its solid walls hold.
@@ -73,7 +77,8 @@ impl AcceptedTable<'_> {
         band(Strengths { held, required })
     }
 
-    // A storey and direction, by what it holds and the house's deterioration factor.
+    // A storey and direction, by what it holds, which any caller may give, and by what its ends hold and the
+    // house's deterioration factor.
     fn assess_direction(
         &self,
         storey: u32,
@@ -82,7 +87,7 @@ impl AcceptedTable<'_> {
         factor: Fraction,
     ) -> Assessment
         requires { Assessable self.now.table.now storey (direction_number direction) sums factor }
-        ensures { result ≡ assessment self.now.table.now storey (direction_number direction) }
+        ensures { result ≡ assessment_with self.now.table.now sums.all storey (direction_number direction) }
     {
         let row = self.storey(storey);
         let narrow = narrow_factor(self.house, row);
@@ -112,7 +117,8 @@ impl AcceptedTable<'_> {
         let storeys = self.house.storeys;
         let factor = self.deterioration();
         let mut places = [NO_ASSESSMENT; 6];
-        let mut least: u32 = 999;
+        let mut least = HIGHEST_SCORE;
+        // Storeys are counted from 0 here, as their places in the array are.
         for below in 0..storeys {
             let storey = below + 1;
             let sums = self.storey_sums(storey);

@@ -6,7 +6,6 @@ ghost use Rattle.diagnosis.specs.Internal.{Addable, with_wall, held_sums, direct
 use crate::accepted::{AcceptedTable, Direction, End, wall_of};
 use answer::ROW;
 use method::wall_share;
-use survey::cell;
 use survey::columns::{DIRECTION, PLACE, WALL_TYPE};
 
 // The type of a solid wall.
@@ -29,24 +28,25 @@ pub struct BothDirections {
 
 // Whether a wall stands in a direction.
 #[tactic(auto, using(crate::proofs::Places::direction_is), unfolding(crate::specs::House::in_direction))]
-fn in_direction(wall: &[u32], direction: Direction) -> bool
+fn in_direction(wall: &[u32; ROW], direction: Direction) -> bool
     ensures { result ≡ in_direction wall.now (direction_number direction) 0 }
 {
-    cell(wall, 0, DIRECTION) == direction as u32
+    wall[DIRECTION] == direction as u32
 }
 
 // Whether a wall is solid and stands in a direction at an end. The tests need no jumps: walls come in no
 // order, and a jump would often be guessed wrong.
 #[tactic(auto, using(crate::proofs::Places::end_is), unfolding(crate::specs::House::solid_at_end))]
-fn solid_at_end(wall: &[u32], direction: Direction, end: End) -> bool
+fn solid_at_end(wall: &[u32; ROW], direction: Direction, end: End) -> bool
     ensures { result ≡ solid_at_end wall.now (direction_number direction) (end_number end) 0 }
 {
     let place = 2 * end as u32 + 1;
-    let solid = cell(wall, 0, WALL_TYPE) == SOLID;
-    in_direction(wall, direction) & solid & (cell(wall, 0, PLACE) == place)
+    let solid = wall[WALL_TYPE] == SOLID;
+    in_direction(wall, direction) & solid & (wall[PLACE] == place)
 }
 
-// What a wall adds to a sum: what it counts, where the sum takes it.
+// What a wall adds to a sum: what it counts, where the sum takes it. (`then_some` and `unwrap_or` would say no
+// more.)
 fn added(takes: bool, counted: u64) -> u64
     ensures { result ≡ cond takes counted 0 }
 {
@@ -56,7 +56,7 @@ fn added(takes: bool, counted: u64) -> u64
 impl HeldSums {
     // The sums of a direction with one wall more, by what that wall counts. An opening counts towards the
     // whole alone.
-    fn with_wall(self, wall: &[u32], direction: Direction, counted: u64) -> HeldSums
+    fn with_wall(self, wall: &[u32; ROW], direction: Direction, counted: u64) -> HeldSums
         requires { Addable self counted }
         ensures { result ≡ with_wall wall.now (direction_number direction) counted self }
     {
@@ -75,8 +75,10 @@ impl AcceptedTable<'_> {
         ensures y { result.y ≡ held_sums self.now.table.now storey 2 }
     {
         let mut sums = BothDirections::default();
-        for wall in self.walls(storey).chunks_exact(ROW) {
+        let (walls, _) = self.walls(storey).as_chunks::<ROW>();
+        for wall in walls {
             let counted = wall_share(self.house, storey, wall_of(wall));
+            // The directions are two fields, so each is written out: a loop over them would need an array.
             sums.x = sums.x.with_wall(wall, Direction::X, counted);
             sums.y = sums.y.with_wall(wall, Direction::Y, counted);
         }

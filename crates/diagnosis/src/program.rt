@@ -8,7 +8,8 @@ use crate::reports::MOST_REPORT_BYTES;
 use answer::{Answer, MOST_NUMBERS, ROW};
 use sheet::{LINE, print_rows, read};
 
-// What the scoring program prints for a sheet.
+// What the scoring program prints for a sheet. Its bytes are an array with a length beside them, since
+// nothing is allocated.
 #[derive(Clone, Copy, Debug, PartialEq, Eq)]
 pub struct ProgramOutput {
     // The count of the report's bytes, or the refusal.

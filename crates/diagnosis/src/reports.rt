@@ -6,9 +6,9 @@ ghost use Rattle.answer.specs.Lists.{over};
 ghost use Rattle.method.specs.Held.{most_held};
 ghost use Rattle.method.specs.Required.{most_required};
 ghost use Rattle.diagnosis.specs.Report.{result_row, verdict_row, reporting, after_reporting};
-ghost use Rattle.diagnosis.specs.Internal.{lines_by, rows_by, reporting_by, after_reporting_by};
+ghost use Rattle.diagnosis.specs.Internal.{direction_number, lines_by, rows_by, reporting_by, after_reporting_by};
 
-use crate::accepted::AcceptedTable;
+use crate::accepted::{AcceptedTable, Direction};
 use crate::assessment::{Assessment, HouseAssessment};
 use answer::{Answer, ROW, Reason, Refusal};
 use method::{Fraction, verdict};
@@ -22,13 +22,17 @@ const REQUIRED_UNIT: u64 = 10_000_000;
 
 // The lines of the longest report: two for each of three storeys, and the verdict's.
 const MOST_LINES: usize = 7;
+
 // Its bytes, for callers that lend as many as any report needs.
 pub const MOST_REPORT_BYTES: usize = LINE * MOST_LINES;
 
+// The directions, as a storey's places have them.
+const DIRECTIONS: [Direction; 2] = [Direction::X, Direction::Y];
+
 // The row of a storey and direction, by what is worked out for it and the deterioration factor.
-fn result_row(storey: u32, direction: u32, found: Assessment, factor: Fraction) -> [u32; ROW]
+fn result_row(storey: u32, direction: Direction, found: Assessment, factor: Fraction) -> [u32; ROW]
     requires { (found.held ≤ most_held) × (found.required ≤ most_required) × (0 < factor.lower) }
-    ensures { result ≡ result_row storey direction found factor }
+    ensures { result ≡ result_row storey (direction_number direction) found factor }
 {
     let held = found.held / HELD_UNIT;
     let required = found.required.div_ceil(REQUIRED_UNIT);
@@ -36,7 +40,7 @@ fn result_row(storey: u32, direction: u32, found: Assessment, factor: Fraction) 
     [
         RowKind::Result as u32,
         storey,
-        direction,
+        direction as u32,
         held as u32,
         required as u32,
         u32::from(found.layout),
@@ -62,8 +66,8 @@ impl HouseAssessment {
         let count = self.count as usize;
         let mut rows = [[0u32; ROW]; MOST_LINES];
         for (at, found) in self.places[..count].iter().enumerate() {
-            let number = at as u32;
-            rows[at] = result_row(number / 2 + 1, number % 2 + 1, *found, self.factor);
+            let storey = at as u32 / 2 + 1;
+            rows[at] = result_row(storey, DIRECTIONS[at % 2], *found, self.factor);
         }
         rows[count] = verdict_row(self.least);
         rows

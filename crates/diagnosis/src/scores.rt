@@ -13,7 +13,8 @@ use method::{Quotient, Verdict, verdict};
 // Document 01: "a record of up to six scores with the verdict"; document 02, request 3: it "also says
 // whether work started by 31 May 1981", and request 4: it "gives beside each score, the whole hundredths,
 // the remainder and the divisor". Six scores go by storey from the ground up, and in each storey
-// direction X, then direction Y; 0 where there is no such storey.
+// direction X, then direction Y; 0 where there is no such storey. The arrays and the count stand side by side,
+// since document 01 names the six scores, and nothing is allocated.
 #[derive(Clone, Copy, Debug, PartialEq, Eq)]
 pub struct Record {
     pub scores: [u32; 6],

@@ -2,9 +2,9 @@
 //
 // Uses `answer`, `sheet`, `method` and `diagnosis`. Document 01: "The host program on the phone calls it with
 // numbers and byte slices and must get the same answers." A slice crosses as a pointer and its length in
-// elements, an answer as a struct of numbers by value: an enum cannot cross. The definitions that tie
-// these structs to the paper's values stand in specs/Host.antt; include/girderbasil.h is the same
-// interface for C.
+// elements, an answer as a struct of numbers by value: an enum or an Option cannot cross, and an array has
+// its count beside it. The definitions that tie these structs to the paper's values stand in
+// specs/Host.antt; include/girderbasil.h is the same interface for C, and its fields are these.
 #![tactic(auto)]
 
 ghost use Rattle.std.specs.Prelude.{◌≡◌, length};
@@ -21,7 +21,7 @@ use diagnosis::{MOST_REPORT_BYTES, ProgramOutput, Record};
 
 // A count or a refusal: `number` is 0 where it is a count.
 #[repr(C)]
-#[derive(Clone, Copy)]
+#[derive(Clone, Copy, Debug, PartialEq, Eq)]
 pub struct HostAnswer {
     pub number: u32,
     pub row: u32,
@@ -31,7 +31,7 @@ pub struct HostAnswer {
 
 // A record or a refusal: `number` is 0 where the table is scored, and else the record is all 0.
 #[repr(C)]
-#[derive(Clone, Copy)]
+#[derive(Clone, Copy, Debug, PartialEq, Eq, Default)]
 pub struct HostScoring {
     pub number: u32,
     pub row: u32,
@@ -51,7 +51,7 @@ pub struct HostScoring {
 // What the scoring program prints for a sheet: `number` is 0 where that is the report, and else it is the
 // line of the refusal.
 #[repr(C)]
-#[derive(Clone, Copy)]
+#[derive(Clone, Copy, Debug, PartialEq, Eq)]
 pub struct HostOutput {
     pub number: u32,
     pub row: u32,
@@ -82,20 +82,6 @@ impl From<Answer> for HostAnswer {
     }
 }
 
-// No refusal and no record.
-const NOTHING: HostScoring = HostScoring {
-    number: 0,
-    row: 0,
-    column: 0,
-    scores: [0; 6],
-    count: 0,
-    verdict: 0,
-    started_by_31_may_1981: 0,
-    hundredths: [0; 6],
-    remainders: [0; 6],
-    divisors: [0; 6],
-};
-
 impl From<Result<Record, Refusal>> for HostScoring {
     ghost from_gives = { λ scored host. told_host_scoring host ≡ told_scoring scored };
 
@@ -115,14 +101,14 @@ impl From<Result<Record, Refusal>> for HostScoring {
                     hundredths,
                     remainders,
                     divisors,
-                    ..NOTHING
+                    ..HostScoring::default()
                 }
             }
             Err(refused) => HostScoring {
                 number: refused.reason.into(),
                 row: refused.row,
                 column: refused.column,
-                ..NOTHING
+                ..HostScoring::default()
             },
         }
     }

@@ -1,21 +1,46 @@
 -- `AcceptedTable::assess` meets its contract. Assumes nothing.
-use Rattle.std.proofs.Common.{◌≡◌, ◌∙◌, refl, arith}
+use Rattle.std.proofs.Common.{◌≡◌, ◌∙◌, refl, ap, ℕ, ◌+◌, ◌≤◌, arith}
 use Rattle.answer.specs.Lists.{joined}
 use Rattle.survey.specs.Table.{storeys}
-use Rattle.diagnosis.specs.House.{scores, least_of, least_score}
+use Rattle.diagnosis.specs.declared.held.HeldSums.{HeldSums}
+use Rattle.diagnosis.specs.House.{InHouse, assessment_with, assessment, scores, least_of, least_score}
 use Rattle.diagnosis.proofs.SixPlaces.{six_none}
 use Rattle.diagnosis.proofs.ScoreLists.{storey_more}
-use Rattle.diagnosis.proofs.Assessments.{printable, places_more}
+use Rattle.diagnosis.proofs.Assessments.{assessable, printable, places_more}
 use Rattle.diagnosis.proofs.accepted.AcceptedTable.assess.Goals as goal
+use Rattle.diagnosis.proofs.accepted.AcceptedTable.assess.Goals.{After-storey_sums-sums}
 
 pub loop-below-init : goal.loop-below-init
 unfolding joined least_of
 loop-below-init c = record { filled = six_none _ _; least_is = refl }
 
+-- The house has the storey of this turn, in both directions.
+here : (c : After-storey_sums-sums) (direction : ℕ) → 1 ≤ direction → direction ≤ 2 → InHouse c.args.self.now.table.now (c.loop-below.below + 1) direction
+here c direction some last = record {
+  some_storey = omega arith;
+  last_storey = omega (arith, c.args.self.now.of_house.storeys_same);
+  some_direction = some;
+  last_direction = last;
+}
+
+pub assess_direction-x-requires : goal.assess_direction-x-requires
+assess_direction-x-requires c =
+    let turn = (goal.at.assess_direction-x-requires c).After-storey_sums-sums in
+    assessable _ c.args.self.now.of_house.stands.accepted _ 1 (here turn 1 (omega arith) (omega arith)) c.storey_sums-sums.ensures.x c.deterioration-factor.ensures
+
+pub assess_direction-y-requires : goal.assess_direction-y-requires
+assess_direction-y-requires c =
+    let turn = (goal.at.assess_direction-y-requires c).After-storey_sums-sums in
+    assessable _ c.args.self.now.of_house.stands.accepted _ 2 (here turn 2 (omega arith) (omega arith)) c.storey_sums-sums.ensures.y c.deterioration-factor.ensures
+
 pub loop-below-preserved : goal.loop-below-preserved
 loop-below-preserved c =
-    let x = c.assess_direction-x.ensures in
-    let y = c.assess_direction-y.ensures in
+    let table = c.args.self.now.table.now in
+    let storey = c.loop-below.below + 1 in
+    let x : c.assess_direction-x.result ≡ assessment table storey 1 =
+    c.assess_direction-x.ensures ∙ ap (λ (sums : HeldSums). assessment_with table sums.all storey 1) c.storey_sums-sums.ensures.x in
+    let y : c.assess_direction-y.result ≡ assessment table storey 2 =
+    c.assess_direction-y.ensures ∙ ap (λ (sums : HeldSums). assessment_with table sums.all storey 2) c.storey_sums-sums.ensures.y in
     let inv = c.loop-below.invariant in
     record {
       filled = places_more _ _ (omega (arith, c.args.self.now.of_house.storeys_same, c.args.self.now.of_house.stands.few)) inv.filled x y;

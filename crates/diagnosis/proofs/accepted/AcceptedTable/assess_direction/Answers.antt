@@ -2,7 +2,6 @@
 use Rattle.std.proofs.Common.{◌≡◌, ◌∙◌}
 use Rattle.diagnosis.specs.House.{narrow, required_of, required, end_required, end_band, storey_floor_type, layout, score_with}
 use Rattle.diagnosis.specs.Internal.{direction_number}
-use Rattle.diagnosis.proofs.Sums.{storey_held_most}
 use Rattle.diagnosis.proofs.Assessments.{quotient_is}
 use Rattle.diagnosis.proofs.accepted.AcceptedTable.assess_direction.Goals as goal
 use Rattle.diagnosis.proofs.accepted.AcceptedTable.assess_direction.Goals.{After-layout_factor-layout, After-narrow_factor-narrow, After-required_strength-required}
@@ -28,7 +27,8 @@ layout_is c =
       c.narrow_factor-narrow.ensures,
       c.storey-row.ensures,
       c.args.self.now.of_house.row,
-      c.requires.sums_are,
+      c.requires.a_is,
+      c.requires.b_is,
     )
 
 pub returns : goal.returns
@@ -42,6 +42,5 @@ returns c =
       required-is (goal.at.returns c).After-required_strength-required,
       layout_is (goal.at.returns c).After-layout_factor-layout,
       c.requires.factor_is,
-      c.requires.sums_are,
-      quotient_is _ accepted _ _ here.some_storey here.last_storey (storey_held_most _ accepted _ _),
+      quotient_is _ accepted _ _ here.some_storey here.last_storey c.requires.all_most,
     )
