@@ -58,7 +58,8 @@ fn at_foundation(printed: &[u8; 3], foundation: u32) -> u8
     numbered(printed, foundation).copied().unwrap_or(0)
 }
 
-// The entries of a foundation in a joint's line.
+// The entries of a foundation in a joint's line. They are written out: with `map` it was tried, and what the
+// closure answers, which reads the foundation from outside, did not come out of `map`'s contract.
 fn row_of(line: &Line, foundation: u32) -> [u8; 4]
     ensures { result ≡ entries (λ column. nth (get_or line.now column []) foundation 0) }
 {
