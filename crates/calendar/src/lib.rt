@@ -7,7 +7,7 @@
 #![tactic(auto, using(std::proofs::lemmas::Bool::Decides::nat_tests), unfolding(crate::specs::Days::is_leap, crate::specs::Days::days_in, crate::specs::Days::is_date, crate::specs::Days::is_day, crate::specs::Days::ten_years_after, crate::specs::Days::age_on))]
 
 ghost use Rattle.std.specs.Prelude.{◌≡◌, unwrap_or};
-ghost use Rattle.calendar.specs.Days.{is_leap, days_in, is_date, is_day, ten_years_after, age_on};
+ghost use Rattle.calendar.specs.Days.{is_leap, days_in, is_date, is_day, year_of, month_of, day_of, numbered, ten_years_after, age_on};
 
 // Whether February has a 29th in a year: 1900 is no leap year, and 2000 is one.
 fn is_leap(year: u32) -> bool
@@ -29,18 +29,46 @@ fn days_in(year: u32, month: u32) -> Option<u32>
     }
 }
 
-// Whether a month of a year has such a day.
-fn is_date(year: u32, month: u32, day: u32) -> bool
-    ensures { result ≡ is_date year month day }
-{
-    days_in(year, month).is_some_and(|days| (1..=days).contains(&day))
+// A year, a month and a day of the month, of which there may be no such date.
+#[derive(Clone, Copy, Debug, PartialEq, Eq)]
+struct Date {
+    year: u32,
+    month: u32,
+    day: u32,
+}
+
+impl Date {
+    // The parts of a number.
+    fn of(number: u32) -> Date
+        ensures { result ≡ record { year = year_of number; month = month_of number; day = day_of number } }
+    {
+        Date {
+            year: number / 10_000,
+            month: number / 100 % 100,
+            day: number % 100,
+        }
+    }
+
+    // Whether the calendar has the date.
+    fn exists(self) -> bool
+        ensures { result ≡ is_date self.year self.month self.day }
+    {
+        days_in(self.year, self.month).is_some_and(|days| (1..=days).contains(&self.day))
+    }
+
+    // The number of its parts, which may have more than 32 bits.
+    fn number(self) -> u64
+        ensures { result ≡ numbered self.year self.month self.day }
+    {
+        10_000 * u64::from(self.year) + 100 * u64::from(self.month) + u64::from(self.day)
+    }
 }
 
 // Whether a number is a day.
 pub fn is_day(number: u32) -> bool
     ensures { result ≡ is_day number }
 {
-    is_date(number / 10_000, number / 100 % 100, number % 100)
+    Date::of(number).exists()
 }
 
 // The same date ten years later, and 1 March where there is no such day. Of the largest numbers it has more
@@ -48,13 +76,20 @@ pub fn is_day(number: u32) -> bool
 fn ten_years_after(day: u32) -> u64
     ensures { result ≡ ten_years_after day }
 {
-    let year = day / 10_000 + 10;
-    let month = day / 100 % 100;
-    let date = day % 100;
-    if is_date(year, month, date) {
-        10_000 * u64::from(year) + 100 * u64::from(month) + u64::from(date)
+    let date = Date::of(day);
+    let later = Date {
+        year: date.year + 10,
+        ..date
+    };
+    if later.exists() {
+        later.number()
     } else {
-        10_000 * u64::from(year) + 301
+        let first_of_march = Date {
+            month: 3,
+            day: 1,
+            ..later
+        };
+        first_of_march.number()
     }
 }
 
