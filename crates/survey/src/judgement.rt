@@ -41,6 +41,7 @@ impl<'a> Table<'a> {
     }
 
     // Tests the rows between the house's and the walls: the storeys', and the ends, two to a storey.
+    #[tactic(auto, using(crate::proofs::Judging::row_passed, crate::proofs::RowFaults::row_storey, crate::proofs::RowFaults::row_ends))]
     fn check_storeys_and_ends(&self) -> Result<(), Refusal>
         requires { JudgedTo self.now.numbers.now self.now.rows 1 }
         ensures refused { IfErr result (λ refusal. told (Err refusal) ≡ judging self.now.numbers.now) }
@@ -76,6 +77,7 @@ impl<'a> Table<'a> {
     }
 
     // Tests the parts row, which stands in the row `parts`, and the dates row, after which there is none.
+    #[tactic(auto, using(crate::proofs::Judging::row_passed, crate::proofs::Judging::judging_accepted, crate::proofs::RowFaults::row_parts, crate::proofs::RowFaults::row_dates))]
     fn check_last_rows(&self, parts: usize) -> Result<(), Refusal>
         requires parts { parts ≡ parts_row self.now.numbers.now }
         requires judged { JudgedTo self.now.numbers.now self.now.rows parts }
