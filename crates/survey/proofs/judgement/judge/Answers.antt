@@ -2,7 +2,7 @@
 use Rattle.std.proofs.Common.{◌≡◌, Err, ◌∙◌, refl, rules}
 use Rattle.answer.proofs.Lengths.{refused_whole, counted_whole}
 use Rattle.survey.proofs.RowFaults.{row_house}
-use Rattle.survey.proofs.Judging.{judging_length, judging_begins, fault_refused, fault_passed}
+use Rattle.survey.proofs.Judging.{judging_length, judging_begins, fault_refused}
 use Rattle.survey.proofs.judgement.judge.Goals as goal
 
 pub returns-in_err-rows : goal.returns-in_err-rows
@@ -20,8 +20,3 @@ returns-in_err-refused c =
     let size = (counted_whole 8 _ c.in_ok-rows.ensures).1 in
     let came : c.from_residual-in_err-refused.result ≡ Err c.in_err-refused.field-0.0 = search rules in
     rw came (fault_refused (judging_begins size) size.some c.check_house.result (c.check_house.ensures ∙ row_house _) {A = Unit {0}} {answer = Err c.in_err-refused.field-0.0} _ refl c.in_err-refused.ensures)
-
-pub check_storeys_and_ends-requires : goal.check_storeys_and_ends-requires
-check_storeys_and_ends-requires c =
-    let size = (counted_whole 8 _ c.in_ok-rows.ensures).1 in
-    fault_passed (judging_begins size) size.some c.check_house.result (c.check_house.ensures ∙ row_house _) c.in_ok-refused.ensures

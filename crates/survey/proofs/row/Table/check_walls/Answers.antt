@@ -4,7 +4,7 @@ use Rattle.survey.specs.Table.{is_wall}
 use Rattle.survey.specs.Internal.{JudgedTo}
 use Rattle.survey.proofs.Positions.{beyond, wall_before_parts, parts_row_here}
 use Rattle.survey.proofs.RowFaults.{row_wall}
-use Rattle.survey.proofs.Judging.{fault_refused, fault_passed}
+use Rattle.survey.proofs.Judging.{fault_refused}
 use Rattle.survey.proofs.row.Table.check_walls.Goals as goal
 
 -- There is no wall where the table ends.
@@ -19,11 +19,6 @@ pub returns-in_err-refused-clause-refused : goal.returns-in_err-refused-clause-r
 returns-in_err-refused-clause-refused c =
     let before = wall_before_parts _ _ (omega arith) c.loop-at.invariant.1 (sym c.is_wall.ensures ∙ c.if-not-is_wall.false) in
     fault_refused c.loop-at.invariant.0 c.loop-at-test.true c.check_wall.result (c.check_wall.ensures ∙ row_wall _ _ (omega arith) (omega arith) (omega arith) before) c.in_err-refused.field-0.0 (search rules) c.in_err-refused.ensures
-
-pub loop-at-preserved : goal.loop-at-preserved
-loop-at-preserved c =
-    let before = wall_before_parts _ _ (omega arith) c.loop-at.invariant.1 (sym c.is_wall.ensures ∙ c.if-not-is_wall.false) in
-    (fault_passed c.loop-at.invariant.0 c.loop-at-test.true c.check_wall.result (c.check_wall.ensures ∙ row_wall _ _ (omega arith) (omega arith) (omega arith) before) c.in_ok-refused.ensures, omega (arith, before))
 
 pub returns-clause-judged : goal.returns-clause-judged
 returns-clause-judged c =
