@@ -60,7 +60,7 @@ impl<'a> Table<'a> {
 
     // Tests the walls, and answers the row after them, where the parts are due. Where they end is learned on
     // the way: a scan for the parts row up front would go through them twice.
-    #[tactic(auto, using(crate::proofs::Judging::fault_passed, crate::proofs::RowFaults::row_wall, crate::proofs::Positions::wall_before_parts))]
+    #[tactic(auto, using(crate::proofs::Judging::fault_passed, crate::proofs::RowFaults::row_wall, crate::proofs::Positions::wall_before_parts, crate::proofs::Positions::parts_row_here))]
     fn check_walls(&self) -> Result<usize, Refusal>
         requires { JudgedTo self.now.numbers.now self.now.rows (first_wall self.now.numbers.now) }
         ensures refused { IfErr result (λ refusal. told (Err refusal) ≡ judging self.now.numbers.now) }
@@ -98,7 +98,7 @@ impl<'a> Table<'a> {
 }
 
 // Judges any table: the count of its rows, or the refusal.
-#[tactic(auto, using(crate::proofs::Judging::judging_begins, crate::proofs::Judging::fault_passed, crate::proofs::RowFaults::row_house))]
+#[tactic(auto, using(answer::proofs::Lengths::refused_whole, answer::proofs::Lengths::counted_whole, crate::proofs::Judging::judging_length, crate::proofs::Judging::judging_begins, crate::proofs::Judging::fault_passed, crate::proofs::RowFaults::row_house))]
 pub fn judge(table: &[u32]) -> Answer
     ensures { told result ≡ judging table.now }
 {

@@ -1,15 +1,9 @@
 -- `survey::judgement::judge` meets its contract. Assumes nothing.
 use Rattle.std.proofs.Common.{◌≡◌, Err, ◌∙◌, refl, rules}
-use Rattle.answer.proofs.Lengths.{refused_whole, counted_whole}
+use Rattle.answer.proofs.Lengths.{counted_whole}
 use Rattle.survey.proofs.RowFaults.{row_house}
-use Rattle.survey.proofs.Judging.{judging_length, judging_begins, fault_refused}
+use Rattle.survey.proofs.Judging.{judging_begins, fault_refused}
 use Rattle.survey.proofs.judgement.judge.Goals as goal
-
-pub returns-in_err-rows : goal.returns-in_err-rows
-returns-in_err-rows c =
-    let came : c.from_residual.result ≡ Err c.in_err-rows.field-0.0 = search rules in
-    let none = refused_whole 8 _ c.in_err-rows.ensures in
-    rw (came, none.0) (judging_length _ none.1)
 
 pub invariant_of-table : goal.invariant_of-table
 invariant_of-table c = record { whole = (counted_whole 8 _ c.in_ok-rows.ensures).1; of_house = c.cell.ensures }

@@ -11,10 +11,6 @@ use Rattle.survey.proofs.row.Table.check_walls.Goals as goal
 no-wall : {table : List ℕ} {rows row : ℕ} → JudgedTo table rows row → rows ≤ row → is_wall table row ≡ false
 no-wall {table} {rows} {row} judged end = rw (beyond table row 0 (omega (arith, judged.size))) refl
 
-pub returns-then-not-is_wall-clause-judged : goal.returns-then-not-is_wall-clause-judged
-returns-then-not-is_wall-clause-judged c =
-    (parts_row_here _ _ (omega arith) c.loop-at.invariant.1 (sym c.is_wall.ensures ∙ c.if-not-is_wall.true), c.loop-at.invariant.0)
-
 pub returns-in_err-refused-clause-refused : goal.returns-in_err-refused-clause-refused
 returns-in_err-refused-clause-refused c =
     let before = wall_before_parts _ _ (omega arith) c.loop-at.invariant.1 (sym c.is_wall.ensures ∙ c.if-not-is_wall.false) in
