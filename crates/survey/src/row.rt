@@ -13,7 +13,7 @@ use crate::table::is_wall;
 use answer::{ROW, Reason, Refusal};
 
 // A table of whole rows, not too many. `storeys` are the house's, by its row, whether or not that has a fault.
-// The numbers are lent in a row as document 01 has them, and `rows` are as `rows_in` counted them.
+// The numbers are one lent slice, as document 01 has them, and `rows` is their count as `rows_in` answers it.
 #[derive(Clone, Copy)]
 pub struct Table<'a> {
     pub numbers: &'a [u32],
@@ -79,7 +79,8 @@ impl Row<'_> {
         is_wall(self.table.numbers, self.at)
     }
 
-    // What a test of this row answers, as a refusal by this row where it found a fault.
+    // What a test of this row answers, as a refusal by this row where it found a fault. By `map_err` its proof
+    // did not close.
     pub(crate) fn refused(&self, tested: Result<(), RowFault>) -> Result<(), Refusal>
         ensures { result ≡ told_by_row self.now.at tested }
     {
@@ -93,8 +94,8 @@ impl Row<'_> {
         })
     }
 
-    // Whether the number in a column lies outside its range. By column, since the ranges and the row's numbers
-    // have it in common.
+    // Whether the number in a column lies outside its range. The tests go by column and not by pairs of a number
+    // and its range, since the column is what is told.
     #[tactic(auto, unfolding(crate::specs::Judgement::outside))]
     fn is_outside(&self, ranges: &[Range; 8], column: usize) -> bool
         requires { column < 8 }
