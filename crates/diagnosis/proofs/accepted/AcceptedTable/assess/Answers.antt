@@ -4,6 +4,7 @@ use Rattle.answer.specs.Lists.{joined}
 use Rattle.survey.specs.Table.{storeys}
 use Rattle.diagnosis.specs.declared.held.HeldSums.{HeldSums}
 use Rattle.diagnosis.specs.House.{InHouse, assessment_with, assessment, scores, least_of, least_score}
+use Rattle.diagnosis.specs.Internal.{Assessable, held_sums}
 use Rattle.diagnosis.proofs.SixPlaces.{six_none}
 use Rattle.diagnosis.proofs.ScoreLists.{storey_more}
 use Rattle.diagnosis.proofs.Assessments.{assessable, printable, places_more}
@@ -14,24 +15,23 @@ pub loop-below-init : goal.loop-below-init
 unfolding joined least_of
 loop-below-init c = record { filled = six_none _ _; least_is = refl }
 
--- The house has the storey of this turn, in both directions.
-here : (c : After-storey_sums-sums) (direction : ℕ) → 1 ≤ direction → direction ≤ 2 → InHouse c.args.self.now.table.now (c.loop-below.below + 1) direction
-here c direction some last = record {
-  some_storey = omega arith;
-  last_storey = omega (arith, c.args.self.now.of_house.storeys_same);
-  some_direction = some;
-  last_direction = last;
-}
+-- A direction of this turn's storey, by what its walls hold.
+ready : (c : After-storey_sums-sums) (direction : ℕ) {sums : HeldSums} → 1 ≤ direction → direction ≤ 2
+    → sums ≡ held_sums c.args.self.now.table.now (c.loop-below.below + 1) direction
+    → Assessable c.args.self.now.table.now (c.loop-below.below + 1) direction sums c.deterioration-factor.result
+ready c direction some last sums =
+    let house = c.args.self.now.of_house in
+    let here : InHouse c.args.self.now.table.now (c.loop-below.below + 1) direction =
+    record { some_storey = omega arith; last_storey = omega (arith, house.storeys_same); some_direction = some; last_direction = last } in
+    assessable _ house.stands.accepted _ direction here sums c.deterioration-factor.ensures
 
 pub assess_direction-x-requires : goal.assess_direction-x-requires
 assess_direction-x-requires c =
-    let turn = (goal.at.assess_direction-x-requires c).After-storey_sums-sums in
-    assessable _ c.args.self.now.of_house.stands.accepted _ 1 (here turn 1 (omega arith) (omega arith)) c.storey_sums-sums.ensures.x c.deterioration-factor.ensures
+    ready (goal.at.assess_direction-x-requires c).After-storey_sums-sums 1 (omega arith) (omega arith) c.storey_sums-sums.ensures.x
 
 pub assess_direction-y-requires : goal.assess_direction-y-requires
 assess_direction-y-requires c =
-    let turn = (goal.at.assess_direction-y-requires c).After-storey_sums-sums in
-    assessable _ c.args.self.now.of_house.stands.accepted _ 2 (here turn 2 (omega arith) (omega arith)) c.storey_sums-sums.ensures.y c.deterioration-factor.ensures
+    ready (goal.at.assess_direction-y-requires c).After-storey_sums-sums 2 (omega arith) (omega arith) c.storey_sums-sums.ensures.y
 
 pub loop-below-preserved : goal.loop-below-preserved
 loop-below-preserved c =
