@@ -12,7 +12,7 @@ use method::{
 
 // Held strength in 0.000001 kN, required strength in 0.000000001 kN, layout factor in hundredths, score;
 // and the score before it is limited, with what is left over.
-#[derive(Clone, Copy, Debug, PartialEq, Eq)]
+#[derive(Clone, Copy, Debug, PartialEq, Eq, Default)]
 pub struct Assessment {
     pub held: u64,
     pub required: u64,
@@ -39,20 +39,6 @@ pub struct HouseAssessment {
 
 // No score is above it.
 const HIGHEST_SCORE: u32 = 999;
-
-// What stands in the places of a storey that the house lacks. It is written out, as `method` gives its
-// `Quotient` no `Default`.
-const NO_ASSESSMENT: Assessment = Assessment {
-    held: 0,
-    required: 0,
-    layout: 0,
-    score: 0,
-    quotient: Quotient {
-        hundredths: 0,
-        remainder: 0,
-        divisor: 0,
-    },
-};
 
 impl AcceptedTable<'_> {
     ghost use Rattle.std.specs.Prelude.{◌≡◌};
@@ -116,7 +102,7 @@ impl AcceptedTable<'_> {
     {
         let storeys = self.house.storeys;
         let factor = self.deterioration();
-        let mut places = [NO_ASSESSMENT; 6];
+        let mut places = [Assessment::default(); 6];
         let mut least = HIGHEST_SCORE;
         // Storeys are counted from 0 here, as their places in the array are.
         for below in 0..storeys {

@@ -6,10 +6,8 @@ ghost use Rattle.diagnosis.specs.Internal.{Addable, with_wall, held_sums, direct
 use crate::accepted::{AcceptedTable, Direction, End, wall_of};
 use answer::ROW;
 use method::wall_share;
+use survey::WallType;
 use survey::columns::{DIRECTION, PLACE, WALL_TYPE};
-
-// The type of a solid wall.
-const SOLID: u32 = 1;
 
 // What walls of a storey hold in a direction: all of them, and the solid ones at ends a and b.
 #[derive(Clone, Copy, Debug, PartialEq, Eq, Default)]
@@ -41,7 +39,7 @@ fn solid_at_end(wall: &[u32; ROW], direction: Direction, end: End) -> bool
     ensures { result ≡ solid_at_end wall.now (direction_number direction) (end_number end) 0 }
 {
     let place = 2 * end as u32 + 1;
-    let solid = wall[WALL_TYPE] == SOLID;
+    let solid = wall[WALL_TYPE] == WallType::Solid as u32;
     in_direction(wall, direction) & solid & (wall[PLACE] == place)
 }
 

@@ -17,7 +17,7 @@ const MOST_REQUIRED: u64 = 60_000_000_000_000;
 
 // A score before it is limited: hundredths × divisor + remainder is what was divided, and of a house the
 // remainder is smaller than the divisor.
-#[derive(Clone, Copy, Debug, PartialEq, Eq)]
+#[derive(Clone, Copy, Debug, PartialEq, Eq, Default)]
 pub struct Quotient {
     // The whole hundredths.
     pub hundredths: u64,

@@ -27,13 +27,8 @@ fn print_diagnosis(rt: &impl Print, sheet: &[u8]) -> io::Result<Option<usize>> {
 // printed; anything else would show as a line too many.
 fn print_record(rt: &impl Print, found: &Record) -> io::Result<()> {
     let count = found.count as usize;
-    let none = Quotient {
-        hundredths: 0,
-        remainder: 0,
-        divisor: 0,
-    };
     for (at, (&score, &quotient)) in found.scores.iter().zip(&found.quotients).enumerate() {
-        if at < count || score != 0 || quotient != none {
+        if at < count || score != 0 || quotient != Quotient::default() {
             let Quotient {
                 hundredths,
                 remainder,

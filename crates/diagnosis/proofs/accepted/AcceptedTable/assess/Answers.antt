@@ -1,9 +1,11 @@
 -- `AcceptedTable::assess` meets its contract. Assumes nothing.
-use Rattle.std.proofs.Common.{◌≡◌, ◌∙◌, refl, ap, ℕ, ◌+◌, ◌≤◌, arith}
+use Rattle.std.proofs.Common.{◌≡◌, ◌∙◌, refl, ap, ℕ, ◌+◌, ◌≤◌, arith, rules}
 use Rattle.answer.specs.Lists.{joined}
 use Rattle.survey.specs.Table.{storeys}
 use Rattle.diagnosis.specs.declared.held.HeldSums.{HeldSums}
+use Rattle.diagnosis.specs.declared.assessment.Assessment.{Assessment}
 use Rattle.diagnosis.specs.House.{InHouse, assessment_with, assessment, scores, least_of, least_score}
+use Rattle.diagnosis.specs.Premises.{no_assessment}
 use Rattle.diagnosis.specs.Internal.{Assessable, held_sums}
 use Rattle.diagnosis.proofs.SixPlaces.{six_none}
 use Rattle.diagnosis.proofs.ScoreLists.{storey_more}
@@ -13,7 +15,9 @@ use Rattle.diagnosis.proofs.accepted.AcceptedTable.assess.Goals.{After-storey_su
 
 pub loop-below-init : goal.loop-below-init
 unfolding joined least_of
-loop-below-init c = record { filled = six_none _ _; least_is = refl }
+loop-below-init c =
+    let none : ◌≡◌ {A = Assessment} c.default-places.result no_assessment = search rules in
+    record { filled = rw none (six_none _ _); least_is = refl }
 
 -- A direction of this turn's storey, by what its walls hold.
 ready : (c : After-storey_sums-sums) (direction : ℕ) {sums : HeldSums} → 1 ≤ direction → direction ≤ 2
