@@ -30,7 +30,8 @@ impl From<Reason> for u32 {
     }
 }
 
-// Why and where: row and column count from 1, and are 0 where the refusal has no place.
+// Why and where: row and column count from 1, and are 0 where the refusal has no place, as document 01 tells
+// it: an `Option` would be taken apart again wherever one is told.
 #[derive(Clone, Copy, Debug, PartialEq, Eq)]
 pub struct Refusal {
     pub reason: Reason,

@@ -63,6 +63,7 @@ fn run_lendings(rt: &impl Print, sheet: &[u8]) -> io::Result<()> {
     lend(rt, sheet, 0, 0)
 }
 
+// Runs a sheet in one of two ways. Which is a flag, since a word holds for all files after it.
 fn run_sheet(rt: &impl Print, sheet: &[u8], lendings: bool) -> io::Result<()> {
     if lendings {
         return run_lendings(rt, sheet);

@@ -12,7 +12,7 @@ pub(crate) const LAST_BYTE: usize = FIELD_WIDTH * ROW;
 pub const LINE: usize = LAST_BYTE + 1;
 
 // Prints eight numbers over the 65 bytes of a line. They are written in place, since a line that is copied
-// from an array of its own takes a twelfth more time.
+// from an array of its own takes a twelfth more time, and by their place (as in writer.rt).
 pub(crate) fn print_row(row: &[u32; ROW], bytes: &mut [u8])
     requires { length bytes.old ≡ 65 }
     ensures { bytes.new ≡ line row.now }

@@ -39,7 +39,7 @@ fn read_line(line: &[u8; LINE], row: usize, numbers: &mut [u32]) -> Result<(), R
 }
 
 // Reads the whole lines of a sheet over the front of `numbers`, as far as the first misprint. Answers how
-// many lines there are, or the misprint's refusal.
+// many lines there are, or the misprint's refusal. Numbers are written by their place (as in writer.rt).
 fn read_lines(sheet: &[u8], numbers: &mut [u32]) -> Result<usize, Refusal>
     requires lines { length sheet.now / 65 ≤ most_rows }
     requires numbers { 8 * (length sheet.now / 65) ≤ length numbers.old }

@@ -18,7 +18,8 @@ fn first_too_large(table: &[u32]) -> Option<usize>
 }
 
 // Prints a table's whole rows over the front of the bytes, a line a row, where they have room for
-// all of them; else no byte changes. Of a number over 99,999,999 the last eight digits are printed.
+// all of them; else no byte changes. Of a number over 99,999,999 the last eight digits are printed. Lines are
+// written by their place, since the library says nothing of bytes after mutable chunks of them were lent.
 pub fn print_rows(table: &[u32], sheet: &mut [u8])
     ensures { sheet.new ≡ after_printing table.now sheet.old }
 {

@@ -45,7 +45,8 @@ pub struct RowFault {
 }
 
 impl RowFault {
-    // The column counts from 0.
+    // The column counts from 0. Columns are numbers below 8 throughout: a type for them would be made and
+    // taken apart at each call.
     pub(crate) fn new(reason: Reason, column: usize) -> Self
         requires { column < 8 }
         ensures { result ≡ record { reason = reason; column = column + 1 } }
