@@ -1,5 +1,5 @@
 -- The required strength never falls with weight class, zone, ground or snow, is positive, and has a most. Assumes nothing.
-use Rattle.std.proofs.Common.{◌≡◌, refl, Bool, true, not, ◌&&◌, ◌||◌, List, [], ◌∷◌, ℕ, zero, suc, ◌+◌, ◌-◌, ◌*◌, ◌<◌, ◌≤◌, zero-le, add-le-add, mul-le-mul, mul-pos, le_refl, le_trans, arith, length, get_or, take, drop, unwrap_or, eqb, leb, ltb, lit≤, leb-true, ltb-true, ltb-false, le-leb, le-ltb}
+use Rattle.std.proofs.Common.{◌≡◌, refl, Bool, true, not, ◌&&◌, ◌||◌, List, [], ℕ, ◌+◌, ◌-◌, ◌*◌, ◌<◌, ◌≤◌, zero-le, add-le-add, mul-le-mul, mul-pos, le_refl, le_trans, arith, get_or, unwrap_or, eqb, leb, ltb, lit≤, leb-true, ltb-true, ltb-false, le-leb, le-ltb}
 use Rattle.std.proofs.lemmas.Bool.Decides.{nat_tests}
 use Rattle.method.specs.declared.rows.House.{House}
 use Rattle.method.specs.declared.rows.Storey.{Storey}
@@ -21,44 +21,12 @@ module _ (part : HousePart) (weight : ℕ) where
   unfolding constant
   constant_none none = grind (arith, nat_tests)
 
-  pub constant_numbered : 1 ≤ part.storey → part.storey ≤ part.storeys → part.storeys ≤ 3 → (printed : List ℕ) → printed ≡ get_or constants line []
-      → unwrap_or (numbered printed weight) 0 ≡ constant part weight
+  pub constant_numbered : 1 ≤ part.storey → part.storey ≤ part.storeys → part.storeys ≤ 3
+      → unwrap_or (numbered (get_or constants line []) weight) 0 ≡ constant part weight
   unfolding constant
-  constant_numbered some most few printed known =
-      rw (le-leb 1 part.storey some, le-leb part.storey part.storeys most, le-leb part.storeys 3 few, known)
+  constant_numbered some most few =
+      rw (le-leb 1 part.storey some, le-leb part.storey part.storeys most, le-leb part.storeys 3 few)
       (numbered_nth (get_or constants line []) weight 0)
-
--- The same table by the number of storeys, each from its top storey down.
-abbrev pub by_storeys : List (List (List ℕ))
-by_storeys = take 1 constants ∷ take 2 (drop 1 constants) ∷ drop 3 constants ∷ []
-
-length_by_storeys : (storeys : ℕ) → storeys ≤ 3 → length (nth by_storeys storeys []) ≡ storeys
-unfolding nth
-length_by_storeys zero few = refl
-length_by_storeys (suc zero) few = refl
-length_by_storeys (suc (suc zero)) few = refl
-length_by_storeys (suc (suc (suc zero))) few = refl
-length_by_storeys (suc (suc (suc (suc storeys)))) few = absurd (omega arith)
-
--- They are as many as the storeys,
-pub lines_long : {lines : List (List ℕ)} (storeys : ℕ) → storeys ≤ 3 → lines ≡ nth by_storeys storeys [] → length lines ≡ storeys
-lines_long storeys few known = rw known (length_by_storeys storeys few)
-
--- and each is the line of the table.
-pub line_by_storeys : (storeys above : ℕ) → above < storeys → storeys ≤ 3
-    → get_or (nth by_storeys storeys []) above [] ≡ get_or constants (top_line storeys + above) []
-unfolding nth top_line
-line_by_storeys zero above within few = absurd (omega arith)
-line_by_storeys (suc zero) zero within few = refl
-line_by_storeys (suc zero) (suc above) within few = absurd (omega arith)
-line_by_storeys (suc (suc zero)) zero within few = refl
-line_by_storeys (suc (suc zero)) (suc zero) within few = refl
-line_by_storeys (suc (suc zero)) (suc (suc above)) within few = absurd (omega arith)
-line_by_storeys (suc (suc (suc zero))) zero within few = refl
-line_by_storeys (suc (suc (suc zero))) (suc zero) within few = refl
-line_by_storeys (suc (suc (suc zero))) (suc (suc zero)) within few = refl
-line_by_storeys (suc (suc (suc zero))) (suc (suc (suc above))) within few = absurd (omega arith)
-line_by_storeys (suc (suc (suc (suc storeys)))) above within few = absurd (omega arith)
 
 -- The test of table 4.1: every constant of a house is positive.
 positive : ℕ → ℕ → ℕ → Bool

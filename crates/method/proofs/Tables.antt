@@ -1,5 +1,5 @@
 -- Printed tables: an element by its number, and rules that hold throughout a table by one test that is computed. Assumes nothing.
-use Rattle.std.proofs.Common.{◌≡◌, refl, sym, ap, subst, Bool, true, false, not, ◌&&◌, ◌||◌, List, [], ◌∷◌, ◌++◌, ℕ, zero, suc, ◌-◌, ◌<◌, ◌≤◌, Option, None, Some, Bor, slice_get, unwrap_or, zero-le, lit≤, arith, length, map, get_or, T, eqb, leb}
+use Rattle.std.proofs.Common.{◌≡◌, refl, sym, ap, subst, Bool, true, false, not, ◌&&◌, ◌||◌, List, [], ◌∷◌, ◌++◌, ℕ, zero, suc, ◌-◌, ◌<◌, ◌≤◌, Option, None, Some, Bor, slice_get, unwrap_or, zero-le, arith, length, get_or, T, eqb, leb}
 use native.Mathlib.Decide.{dec_lt}
 use lib.ListN.{get_or-eq_default}
 use Rattle.std.proofs.lemmas.Bool.{and_parts}
@@ -36,25 +36,6 @@ module _ {A : Type 0} (list : List A) where
   unfolding numbered nth
   numbered_nth zero none = refl
   numbered_nth (suc n) none = unwrap_or-slice_get list n none
-
--- An element that there is, in a list of what is lent, and that there is none.
-module _ {A : Type 0} where
-  pub numbered_some : (list : List (Bor A)) (n : ℕ) (x : Bor A) (none : A) → Some x ≡ numbered list n
-      → (1 ≤ n) × (n ≤ length list) × (x.now ≡ nth (map (λ (b : Bor A). b.now) list) n none)
-  unfolding numbered nth
-  numbered_some list zero x none found = cc
-  numbered_some [] (suc n) x none found = cc
-  numbered_some (y ∷ list) (suc zero) x none found = (lit≤ tt, omega arith, ap (λ (o : Option (Bor A)). (unwrap_or o x).now) found)
-  numbered_some (y ∷ list) (suc (suc n)) x none found =
-      let rest = numbered_some list (suc n) x none found in
-      (omega arith, omega (arith, rest.1), rest.2)
-
-  pub numbered_missing : (list : List (Bor A)) (n : ℕ) → None ≡ numbered list n → 1 ≤ n → n ≤ length list → ⊥
-  unfolding numbered
-  numbered_missing list zero missing some most = omega arith
-  numbered_missing [] (suc n) missing some most = omega arith
-  numbered_missing (y ∷ list) (suc zero) missing some most = cc
-  numbered_missing (y ∷ list) (suc (suc n)) missing some most = numbered_missing list (suc n) missing (omega arith) (omega arith)
 
 -- Nothing is in no table.
 pub numbered_empty : {A : Type 0} (n : ℕ) → None ≡ numbered {A = A} [] n

@@ -1,38 +1,47 @@
 // The strength that a storey, or an end of it, must have, in 0.000000001 kN.
-#![tactic(auto, using(std::proofs::lemmas::Bool::Decides::nat_tests, crate::proofs::Requirements::addition_numbered), unfolding(crate::specs::Required::per_area, crate::specs::Required::ground_factor, crate::specs::Required::narrow_factor, crate::specs::Required::required_strength))]
+#![tactic(auto, using(std::proofs::lemmas::Bool::Decides::nat_tests, crate::proofs::Requirements::addition_numbered), unfolding(crate::specs::Required::top_line, crate::specs::Required::per_area, crate::specs::Required::ground_factor, crate::specs::Required::narrow_factor, crate::specs::Required::required_strength))]
 
 ghost use Rattle.std.specs.Prelude.{◌≡◌, unwrap_or};
-ghost use Rattle.method.specs.Required.{constant, snow_addition, per_area, ground_factor, narrow_factor, required_strength};
+ghost use Rattle.method.specs.Required.{top_line, constant, snow_addition, per_area, ground_factor, narrow_factor, required_strength};
 
 use crate::printed::numbered;
 use crate::rows::{House, HousePart, Storey};
 
-// 000's table 4.1, in 0.01 kN/m²: by the number of storeys, from the top storey down, for light, heavy and
-// very heavy buildings.
-static CONSTANTS: [&[[u8; 3]]; 3] = [
-    &[[28, 40, 64]], // one storey
-    &[
-        [37, 53, 78], // two storeys: storey 2
-        [83, 106, 141], // storey 1
-    ],
-    &[
-        [43, 62, 91], // three storeys: storey 3
-        [98, 125, 159], // storey 2
-        [134, 166, 207], // storey 1
-    ],
+// 000's table 4.1, in 0.01 kN/m²: light, heavy and very heavy buildings.
+static CONSTANTS: [[u8; 3]; 6] = [
+    [28, 40, 64], // one storey
+    [37, 53, 78], // two storeys: storey 2
+    [83, 106, 141], // storey 1
+    [43, 62, 91], // three storeys: storey 3
+    [98, 125, 159], // storey 2
+    [134, 166, 207], // storey 1
 ];
 
 // 000's section 4.1, in 0.01 kN/m²: what is added for 1 m and 2 m of snow, and on the same straight line
 // for 2.5 m.
 static SNOW_ADDITIONS: [u8; 3] = [26, 52, 65];
 
+// The line of the table where a number of storeys begins, with its top storey.
+fn top_line(storeys: u32) -> u32
+    ensures { result ≡ top_line storeys }
+{
+    match storeys {
+        1 => 0,
+        2 => 1,
+        _ => 3,
+    }
+}
+
 // The constant of a part's storey and the house's weight class, where the table has one.
 fn constant(part: HousePart, weight: u32) -> Option<u8>
     ensures { unwrap_or result 0 ≡ constant part weight }
 {
-    let lines = numbered(&CONSTANTS, part.storeys)?;
+    if part.storey < 1 || 3 < part.storeys {
+        return None;
+    }
     let above = part.storeys.checked_sub(part.storey)?;
-    numbered(lines.get(above as usize)?, weight).copied()
+    let line = top_line(part.storeys) + above;
+    numbered(&CONSTANTS[line as usize], weight).copied()
 }
 
 // The addition by the house's snow, where there is one.
