@@ -121,6 +121,7 @@ impl<'a> AcceptedTable<'a> {
         requires { InHouse self.now.table.now storey (direction_number direction) }
         ensures { result ≡ end_part self.now.table.now storey (direction_number direction) (end_number end) }
     {
+        // `survey`'s own `Table` has this row too, but is private there.
         let first_ends = self.house.storeys as usize + 1;
         let row = first_ends + 2 * (storey as usize - 1) + (direction as usize - 1);
         HousePart {

@@ -62,7 +62,8 @@ fn reached(end: Strengths, limit: u64) -> bool
     whole + rest <= end.held
 }
 
-// The band of an end, A as 0 to E as 4, by its solid walls' held strength and its required strength.
+// The band of an end, A as 0 to E as 4, by its solid walls' held strength and its required strength. It stays a
+// number, since `Bands`, to which it goes, may hold any.
 pub fn band(end: Strengths) -> u32
     ensures { result ≡ band end }
 {

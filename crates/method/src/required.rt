@@ -7,7 +7,8 @@ ghost use Rattle.method.specs.Required.{top_line, constant, snow_addition, per_a
 use crate::printed::numbered;
 use crate::rows::{House, HousePart, Storey};
 
-// 000's table 4.1, in 0.01 kN/m²: light, heavy and very heavy buildings.
+// 000's table 4.1, in 0.01 kN/m²: light, heavy and very heavy buildings. It is one array and no array of slices by
+// the number of storeys: a constant that holds places has another layout in WebAssembly.
 static CONSTANTS: [[u8; 3]; 6] = [
     [28, 40, 64], // one storey
     [37, 53, 78], // two storeys: storey 2

@@ -26,17 +26,20 @@ prefix_first test start (suc n) = go (test start) (prefix_first test (start + 1)
 pub prefix_count : (test : ℕ → Bool) (start n : ℕ) → (let numbers = range_with_len start n in length (take (prefix_len test numbers) numbers)) ≡ first (λ k. not (test (start + k))) n
 prefix_count test start n = length-prefix_len test (range_with_len start n) ∙ prefix_first test start n
 
--- The first number of a range from 0 that passes a test.
+-- The first number of a range that passes a test, by how many are before it.
+pub position_from : (test : ℕ → Bool) (start n : ℕ) → (let numbers = range_with_len start n in cond (ltb (position_or_len test numbers) (length numbers)) (Some (position_or_len test numbers)) None)
+    ≡ place_below n (first (λ k. test (start + k)) n)
+position_from test start n =
+    rw (length-range_with_len, prefix_first (λ k. not (test k)) start n, first_same (λ k. not (not (test (start + k)))) (λ k. test (start + k)) n (λ k. twice (test (start + k)))) refl
+  where
+    twice : (b : Bool) → not (not b) ≡ b
+    twice true = refl
+    twice false = refl
+
+-- And of a range from 0.
 pub position_first : (test : ℕ → Bool) (n : ℕ) → (let numbers = range_with_len 0 n in cond (ltb (position_or_len test numbers) (length numbers)) (Some (position_or_len test numbers)) None)
     ≡ place_below n (first test n)
-position_first test n = rw (length-range_with_len, prefix_first (λ k. not (test k)) 0 n, first_same (λ k. not (not (test (0 + k)))) test n same) refl
-  where
-    same : (k : ℕ) → not (not (test (0 + k))) ≡ test k
-    same k = rw zero-add (twice (test k))
-      where
-        twice : (b : Bool) → not (not b) ≡ b
-        twice true = refl
-        twice false = refl
+position_first test n = position_from test 0 n ∙ ap (place_below n) (first_same (λ k. test (0 + k)) test n (λ k. rw zero-add refl))
 
 -- A place, or else their count; and what a place says, or that there is none.
 module _ (n i : ℕ) where

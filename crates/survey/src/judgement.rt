@@ -16,7 +16,8 @@ use answer::{Answer, ROW, Reason, Refusal, rows_in};
 // A table that is judged as far as a row has no type of its own: each step takes up at another row of the
 // same table, and is called once.
 impl<'a> Table<'a> {
-    // The refusal of a row that is missing, or stands after the last that is due.
+    // The refusal of a row that is missing, or stands after the last that is due. (One that is missing is no
+    // `Row`, so `Row::refused` can't make it.)
     fn out_of_order(&self, at: usize) -> Refusal
         requires { at ≤ self.now.rows }
         ensures { result ≡ record { reason = RowOutOfOrder; row = at + 1; column = 1 } }

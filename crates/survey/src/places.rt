@@ -13,9 +13,10 @@ pub fn parts_row(table: &[u32]) -> usize
     ensures most { result ≤ 2 ^ 62 }
 {
     let first = 3 * (cell(table, 0, STOREYS) as usize) + 1;
-    let walls = (first..first + table.len())
-        .take_while(|&row| is_wall(table, row))
-        .count();
+    let most = table.len();
+    let walls = (first..first + most)
+        .position(|row| !is_wall(table, row))
+        .unwrap_or(most);
     first + walls
 }
 

@@ -31,9 +31,10 @@ fn run_length(table: &[u32], storey: u32, start: usize) -> usize
     requires { start ≤ length table.now / 8 }
     ensures { result ≡ run_length table.now storey start }
 {
-    (start..table.len() / ROW)
-        .take_while(|&row| is_wall_of(table, storey, row))
-        .count()
+    let rows = table.len() / ROW;
+    (start..rows)
+        .position(|row| !is_wall_of(table, storey, row))
+        .unwrap_or(rows - start)
 }
 
 // The first unbroken run of a storey's wall rows, in any table. In a table that is accepted these are all
