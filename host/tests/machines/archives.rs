@@ -147,7 +147,7 @@ fn under_node_the_module_has_the_functions_of_the_header_and_no_more() {
     let mut expected = header::functions();
     expected.extend(["__heap_base", "memory"]);
     expected.sort_unstable();
-    assert_eq!(text(&output.stdout), expected.join("\n") + " 0 65696\n");
+    assert_eq!(text(&output.stdout), expected.join("\n") + " 0 66080\n");
     assert!(page::says("The module has a stack of 64 KB"));
 }
 
