@@ -60,6 +60,9 @@ struct Tally {
     day_before_order: usize,
     /// By snow, then by storeys.
     storeys: [[usize; 4]; 4],
+    /// By which of their storeys are narrow: a house of one storey, of two and of three, then the set of them in which the
+    /// ground storey is worth 1, each next storey twice the one before.
+    narrow: [[usize; 8]; 3],
     verdicts: [usize; 5],
     /// By the age on the survey day, from 1.
     ages: [usize; 3],
@@ -80,6 +83,12 @@ impl Tally {
         let diagnosis = Diagnosis::of(table).expect("the model scored it");
         self.ages[diagnosis.survey.dates.age() as usize] += 1;
         self.repaired[house::repaired_of(table)] += 1;
+        let sides = house::short_sides_of(table);
+        let narrow = sides
+            .iter()
+            .rev()
+            .fold(0, |set, &side| 2 * set + usize::from(side < 4_000));
+        self.narrow[sides.len() - 1][narrow] += 1;
         self.scores.check(&diagnosis, record);
         for assessment in diagnosis.assessments() {
             let [a, b] = assessment.bands.map(|band| band as usize);
@@ -144,6 +153,9 @@ impl Tally {
             &self.repaired,
         ] {
             assert!(met.iter().all(|&met| met >= least), "{self:?}");
+        }
+        for (narrow, sets) in self.narrow.iter().zip([2, 4, 8]) {
+            assert!(narrow[..sets].iter().all(|&met| met >= least), "{self:?}");
         }
         for lower in 0..5 {
             for higher in lower..5 {

@@ -20,8 +20,8 @@ fn with_walls(count: usize) -> Vec<u32> {
     #[rustfmt::skip]
     let mut table = vec![
         1, 2, 1, 100, 1, 1, 0, 0,
-        2, 1, 4000, 3999, 1, 0, 0, 0,
-        2, 2, 4000, 3999, 1, 0, 0, 0,
+        2, 1, 4000, 5000, 1, 0, 0, 0,
+        2, 2, 4000, 5000, 1, 0, 0, 0,
         3, 1, 1, 1000, 1000, 2, 2, 0,
         3, 1, 2, 1000, 1000, 2, 2, 0,
         3, 2, 1, 1000, 1000, 2, 2, 0,
@@ -280,7 +280,7 @@ fn required_strength_in_snow() {
     let storey = Storey {
         number: 1,
         area: 4000,
-        short_side: 3999,
+        short_side: 5000,
         floor: 1,
         void: false,
     };
@@ -298,11 +298,11 @@ fn required_strength_in_snow() {
         };
         let factors = 90 * 15 * 113;
         assert_eq!(
-            required::storey(&house, &storey),
+            required::storey(&house, &storey, 113),
             (141 + addition) * 4000 * factors
         );
         assert_eq!(
-            required::ends(&house, &storey, &ends),
+            required::ends(&house, &storey, 113, &ends),
             [
                 (141 + addition) * 1000 * factors,
                 (64 + addition) * 500 * factors
@@ -342,20 +342,58 @@ fn ends_up_to_the_storeys_area() {
     );
 }
 
+/// A heavy house without walls by the short sides of its storeys, from the ground up: 40 m² each, the ends 10 m² and of
+/// parts that reach no higher than their storey.
+fn by_short_sides(sides: &[u32]) -> Vec<u32> {
+    let storeys = sides.len() as u32;
+    let mut table = vec![1, storeys, 2, 100, 1, 1, 0, 0];
+    for (storey, &side) in (1..).zip(sides) {
+        table.extend([2, storey, 4000, side, 1, 0, 0, 0]);
+    }
+    for storey in 1..=storeys {
+        for direction in 1..=2 {
+            table.extend([3, storey, direction, 1000, 1000, storey, storey, 0]);
+        }
+    }
+    table.extend([5, ALL_PARTS, 0, 0, 0, 0, 0, 0]);
+    table.extend([8, 19_800_401, 19_801_001, 20_120_401, 0, 0, 0, 0]);
+    table
+}
+
+/// The factors of document 02's request 6, from the ground up, by what storeys and their ends require.
 #[test]
-fn short_side_of_4_m() {
-    let mut table = with_walls(1);
-    let ground_storey = |table: &[u32]| {
-        let diagnosis = Diagnosis::of(table).unwrap();
-        let required: Vec<u64> = diagnosis.assessments().map(|each| each.required).collect();
-        required
-    };
-    let plain = 83 * 4000 * 100 * 10 * 100;
-    let upper = 37 * 4000 * 100 * 10 * 100;
-    let narrow = plain / 100 * 113;
-    assert_eq!(ground_storey(&table), [narrow, narrow, upper, upper]);
-    table[ROW + 3] = 4000;
-    assert_eq!(ground_storey(&table), [plain, plain, upper, upper]);
+fn every_storey_below_a_narrow_one_takes_113() {
+    const CONSTANTS: [&[u64]; 3] = [&[40], &[106, 53], &[166, 125, 62]];
+    const OF_PARTS: [u64; 3] = [40, 53, 62];
+    for (sides, factors) in [
+        (&[5_000, 3_999][..], &[113, 100][..]),
+        (&[3_999, 5_000], &[100, 100]),
+        (&[5_000, 5_000, 3_600], &[113, 113, 100]),
+        (&[5_000, 3_600, 5_000], &[113, 100, 100]),
+        (&[5_000, 3_600, 3_600], &[113, 113, 100]),
+        (&[3_600, 5_000, 5_000], &[100, 100, 100]),
+        (&[3_600, 3_600, 3_600], &[113, 113, 100]),
+        (&[3_999], &[100]),
+        (&[5_000, 4_000], &[100, 100]),
+        (&[4_000, 4_000, 4_000], &[100, 100, 100]),
+    ] {
+        let table = by_short_sides(sides);
+        let diagnosis = Diagnosis::of(&table).unwrap();
+        for assessment in diagnosis.assessments() {
+            let index = assessment.storey as usize - 1;
+            let constant = CONSTANTS[sides.len() - 1][index];
+            assert_eq!(
+                assessment.required,
+                constant * 4000 * 100 * 10 * factors[index],
+                "{sides:?}"
+            );
+            assert_eq!(
+                assessment.required_of_ends,
+                [OF_PARTS[index] * 1000 * 100 * 10 * factors[index]; 2],
+                "{sides:?}"
+            );
+        }
+    }
 }
 
 #[test]

@@ -18,7 +18,7 @@ use Rattle.survey.proofs.Examples.{p1_judged, zones_known}
 use Rattle.survey.proofs.Examples as survey
 use Rattle.method.specs.Printed.{nth}
 use Rattle.method.specs.Held.{position, foundation_used, shared_row, top_entry, entry_in, entry, interpolated, row_factor, joint_factor, solid_share, opening_share, wall_share, held_strength}
-use Rattle.method.specs.Required.{top_line, constant, snow_addition, per_area, ground_factor, narrow_factor, required_strength}
+use Rattle.method.specs.Required.{top_line, constant, snow_addition, per_area, ground_factor, is_narrow, narrow_factor, required_strength}
 use Rattle.method.specs.LayoutFactor.{reached, band, floor_type, layout_factor}
 use Rattle.method.specs.Deterioration.{points, counted_marks, fraction, factor_of, deterioration_factor, after_repair}
 use Rattle.method.specs.Score.{quotient, limited, score, score_before_layout, verdict}
@@ -26,7 +26,7 @@ use Rattle.method.specs.Worked.{worked, expected}
 use Rattle.method.proofs.Examples.{worked_out}
 use Rattle.diagnosis.specs.Rows.{end_a, end_b}
 use Rattle.method.specs.declared.scores.Quotient.{Quotient}
-use Rattle.diagnosis.specs.House.{in_direction, solid_at_end, held, end_held, narrow, required_of, required, end_required, end_band, higher_band, storey_floor_type, layout, deterioration, strengths_with, score_before, score_with, quotient_with, full_score, full_quotient, scores, least_of, least_score, house_verdict, started_by_31_may_1981}
+use Rattle.diagnosis.specs.House.{in_direction, solid_at_end, held, end_held, narrow_storey, narrow, required_of, required, end_required, end_band, higher_band, storey_floor_type, layout, deterioration, strengths_with, score_before, score_with, quotient_with, full_score, full_quotient, scores, least_of, least_score, house_verdict, started_by_31_may_1981}
 use Rattle.diagnosis.specs.declared.held.HeldSums.{HeldSums}
 use Rattle.method.specs.declared.verdicts.Verdict.TheVariants.{LikelyToCollapse}
 use Rattle.diagnosis.specs.Internal.{held_sums}
@@ -34,7 +34,7 @@ use Rattle.diagnosis.specs.Answers.{ToldRecord, told_refused, Scoring, told_scor
 use Rattle.diagnosis.specs.Comparison.{score_at}
 use Rattle.diagnosis.specs.Report.{result_rows, report_rows, report_bytes, reporting, refusal_line}
 use Rattle.diagnosis.specs.Program.{most_numbers, table_of, diagnosing, after_diagnosing, most_report_bytes, output}
-use Rattle.diagnosis.specs.Worked.{p1_report, p1_record, sound_record, all_worse_record, like_p1, small_floor, with_parts, repaired_with_parts, with_middle_wall, on_the_ground, p10, under_ten_day, ten_day, sound, heavy, zone100, soft_ground, over_ten, more_marks, all_worse, started_on, under_snow, snowy_sound, snowy_worse, repaired_sound, repaired_worse, weak_joints, figures, same_bands}
+use Rattle.diagnosis.specs.Worked.{p1_report, p1_record, sound_record, all_worse_record, like_p1, small_floor, with_parts, repaired_with_parts, with_middle_wall, on_the_ground, p10, under_ten_day, ten_day, storeys_and_ends, by_sides, narrow_factors, sound, heavy, zone100, soft_ground, over_ten, more_marks, all_worse, started_on, under_snow, snowy_sound, snowy_worse, repaired_sound, repaired_worse, weak_joints, figures, same_bands}
 
 -- P1's sheet can be read, and is P1's table.
 p1_read : reading p1_sheet most_numbers ≡ counted 12
@@ -73,7 +73,7 @@ p10_factor zone = refl
 
 -- From the walls on all is computed. Laws below that name this one in their `unfolding` line unfold what it does.
 pub p1_scores : scores p1 ≡ 47 ∷ 83 ∷ []
-unfolding scores joined score_with quotient_with score_before layout higher_band end_band end_required required required_of narrow storey_floor_type held end_held solid_at_end in_direction rows_from wall_rows first nth position foundation_used shared_row top_entry entry_in entry interpolated row_factor joint_factor solid_share opening_share wall_share held_strength top_line constant snow_addition per_area ground_factor narrow_factor required_strength reached band floor_type layout_factor points counted_marks factor_of deterioration_factor after_repair quotient score is_leap days_in is_date ten_years_after age_on
+unfolding scores joined score_with quotient_with score_before layout higher_band end_band end_required required required_of narrow narrow_storey storey_floor_type held end_held solid_at_end in_direction rows_from wall_rows first nth position foundation_used shared_row top_entry entry_in entry interpolated row_factor joint_factor solid_share opening_share wall_share held_strength top_line constant snow_addition per_area ground_factor is_narrow narrow_factor required_strength reached band floor_type layout_factor points counted_marks factor_of deterioration_factor after_repair quotient score is_leap days_in is_date ten_years_after age_on
 p1_scores = rw (p1_walls, p1_factor)
 
 p1_rows : report_rows p1 ≡
@@ -242,7 +242,7 @@ module _ (weight zone ground_class survey_day marked repaired : ℕ) (accepted :
 
 -- From what they hold on all is computed.
 pub sound_figures : figures sound ≡ (131 ∷ 200 ∷ 350 ∷ 250 ∷ []) ∷ (188 ∷ 200 ∷ 350 ∷ 250 ∷ []) ∷ same_bands ∷ []
-unfolding end_required required required_of narrow deterioration storey_floor_type wall_rows first nth top_line constant snow_addition per_area ground_factor narrow_factor required_strength reached band floor_type layout_factor points counted_marks factor_of deterioration_factor after_repair quotient score is_leap days_in is_date ten_years_after age_on
+unfolding end_required required required_of narrow narrow_storey deterioration storey_floor_type wall_rows first nth top_line constant snow_addition per_area ground_factor is_narrow narrow_factor required_strength reached band floor_type layout_factor points counted_marks factor_of deterioration_factor after_repair quotient score is_leap days_in is_date ten_years_after age_on
 sound_figures = by_sums _ refl (holds 1 90 1 under_ten_day 2048 0 two_judged.0)
 
 pub heavy_figures : figures heavy ≡ (103 ∷ 157 ∷ 244 ∷ 174 ∷ []) ∷ (147 ∷ 157 ∷ 244 ∷ 174 ∷ []) ∷ same_bands ∷ []
@@ -497,3 +497,28 @@ grants_last_day_lem = (rw started_judged.0, rw started_judged.1)
 pub refused_record : scoring (set p1 6 2) ≡ told_refused 4 1 7
 unfolding scoring
 refused_record = rw started_judged.2
+
+-- Narrow factors from the ground up, and below a narrow storey what is required of the ground storey and of its end a.
+pub narrow_worked_out :
+    (
+    narrow_factors (5000 ∷ 3999 ∷ [])
+    ∷ narrow_factors (3999 ∷ 5000 ∷ [])
+    ∷ narrow_factors (5000 ∷ 5000 ∷ 3600 ∷ [])
+    ∷ narrow_factors (5000 ∷ 3600 ∷ 5000 ∷ [])
+    ∷ narrow_factors (5000 ∷ 3600 ∷ 3600 ∷ [])
+    ∷ narrow_factors (3999 ∷ [])
+    ∷ narrow_factors (5000 ∷ 4000 ∷ [])
+    ∷ (required (by_sides (5000 ∷ 3999 ∷ [])) 1 ∷ end_required (by_sides (5000 ∷ 3999 ∷ [])) 1 1 end_a ∷ [])
+    ∷ []
+    )
+    ≡ (113 ∷ 100 ∷ [])
+    ∷ (100 ∷ 100 ∷ [])
+    ∷ (113 ∷ 113 ∷ 100 ∷ [])
+    ∷ (113 ∷ 100 ∷ 100 ∷ [])
+    ∷ (113 ∷ 113 ∷ 100 ∷ [])
+    ∷ (100 ∷ [])
+    ∷ (100 ∷ 100 ∷ [])
+    ∷ (47_912_000_000 ∷ 4_520_000_000 ∷ [])
+    ∷ []
+unfolding sound_figures joined storeys_and_ends
+narrow_worked_out = refl

@@ -1,5 +1,6 @@
 -- The laws about a table's diagnosis, and the theorems.
 pub mod AcceptedTables
+pub mod NarrowStoreys
 pub mod Sums
 pub mod Places
 pub mod SixPlaces
@@ -11,5 +12,5 @@ pub mod ReportNumbers
 pub mod Reporting
 pub mod Comparing
 pub mod Examples
-pub mod Pairs
+mod Pairs
 pub mod Theorems

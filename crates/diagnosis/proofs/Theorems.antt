@@ -1,6 +1,6 @@
 -- The theorems about a house's diagnosis, in the order of document 01. Each is proved where it is cited from; the words of its statement are
 -- defined in specs/. Assumes nothing.
-use Rattle.std.proofs.Common.{◌≡◌, Result, Ok, true, false, List, [], ◌∷◌, ℕ, ◌+◌, ◌*◌, ◌<◌, ◌≤◌, min, arith, length, get_or, set, take, replicate, eqb}
+use Rattle.std.proofs.Common.{◌≡◌, Result, Ok, true, false, List, [], ◌∷◌, ℕ, ◌+◌, ◌*◌, ◌<◌, ◌≤◌, le_refl, min, arith, length, get_or, set, take, replicate, eqb}
 use Rattle.answer.specs.declared.refusal.Refusal.{Refusal}
 use Rattle.answer.specs.Told.{told, counted, lent_space_short}
 use Rattle.answer.specs.Text.{bytes}
@@ -10,13 +10,14 @@ use Rattle.sheet.specs.Sheet.{writing, after_writing}
 use Rattle.survey.specs.Table.{cell, storeys}
 use Rattle.survey.specs.Judgement.{judging, within}
 use Rattle.method.specs.Worked.{worked, expected}
-use Rattle.diagnosis.specs.Rows.{weight, zone, ground_class, marked, repaired, survey_day}
-use Rattle.diagnosis.specs.House.{InHouse, held, required, layout, higher_band, deterioration, score_before, full_score, least_score, house_verdict}
+use Rattle.diagnosis.specs.Rows.{storey_of, end_a, weight, zone, ground_class, marked, repaired, survey_day}
+use Rattle.diagnosis.specs.House.{InHouse, held, narrow, required, end_required, layout, higher_band, deterioration, score_before, full_score, least_score, house_verdict}
 use Rattle.diagnosis.specs.Answers.{Scoring, told_scoring, record_of, scoring}
 use Rattle.diagnosis.specs.Report.{report_rows, report_lines, report_bytes, reporting}
 use Rattle.diagnosis.specs.Program.{table_of, diagnosing, after_diagnosing, most_report_bytes, output}
 use Rattle.diagnosis.specs.Comparison.{may_differ, NoLower, SameOrWorse, BandKept, score_at, NoBetter, Applies}
-use Rattle.diagnosis.specs.Worked.{p1_report, p1_record, sound_record, all_worse_record, small_floor, with_parts, repaired_with_parts, with_middle_wall, on_the_ground, p10, sound, heavy, zone100, soft_ground, over_ten, more_marks, all_worse, started_on, under_snow, snowy_sound, snowy_worse, as_repaired, repaired_sound, repaired_worse, weak_joints, figures, same_bands}
+use Rattle.diagnosis.specs.Worked.{p1_report, p1_record, sound_record, all_worse_record, small_floor, with_parts, repaired_with_parts, with_middle_wall, on_the_ground, p10, storeys_and_ends, by_sides, narrow_factors, sound, heavy, zone100, soft_ground, over_ten, more_marks, all_worse, started_on, under_snow, snowy_sound, snowy_worse, as_repaired, repaired_sound, repaired_worse, weak_joints, figures, same_bands}
+use Rattle.diagnosis.proofs.NarrowStoreys as narrow_storeys
 use Rattle.diagnosis.proofs.ScoreLists as score_lists
 use Rattle.diagnosis.proofs.RecordNumbers as record_numbers
 use Rattle.diagnosis.proofs.ReportNumbers as report_numbers
@@ -24,6 +25,51 @@ use Rattle.diagnosis.proofs.Reporting as program
 use Rattle.diagnosis.proofs.Comparing as comparing
 use Rattle.diagnosis.proofs.Examples as examples
 use Rattle.diagnosis.proofs.Pairs as pairs
+
+-- Required strength
+
+-- Of a house, which has at most three storeys: "if a storey's short side is under 4,000 mm, every storey below it takes 113, once, however many are
+-- narrow above" (document 02, request 6); and a storey with none such above it takes 100, as before.
+pub narrow_above : (table : List ℕ) → storeys table ≤ 3 → (storey : ℕ) → 1 ≤ storey
+    → ((above : ℕ) → storey < above → above ≤ storeys table → (storey_of table above).side < 4000 → narrow table storey ≡ 113)
+    × (((above : ℕ) → storey < above → above ≤ storeys table → 4000 ≤ (storey_of table above).side) → narrow table storey ≡ 100)
+narrow_above table few storey some = (narrow_storeys.below_narrow table few storey some, narrow_storeys.below_wide table few storey some)
+
+-- The narrow factors of houses by their short sides, both from the ground up; and, below a narrow storey, what is required of a ground storey of 40 m²
+-- and of an end of it, of 10 m² and one storey.
+pub narrow_worked_out :
+    (
+    narrow_factors (5000 ∷ 3999 ∷ [])
+    ∷ narrow_factors (3999 ∷ 5000 ∷ [])
+    ∷ narrow_factors (5000 ∷ 5000 ∷ 3600 ∷ [])
+    ∷ narrow_factors (5000 ∷ 3600 ∷ 5000 ∷ [])
+    ∷ narrow_factors (5000 ∷ 3600 ∷ 3600 ∷ [])
+    ∷ narrow_factors (3999 ∷ [])
+    ∷ narrow_factors (5000 ∷ 4000 ∷ [])
+    ∷ (required (by_sides (5000 ∷ 3999 ∷ [])) 1 ∷ end_required (by_sides (5000 ∷ 3999 ∷ [])) 1 1 end_a ∷ [])
+    ∷ []
+    )
+    ≡ (113 ∷ 100 ∷ [])
+    ∷ (100 ∷ 100 ∷ [])
+    ∷ (113 ∷ 113 ∷ 100 ∷ [])
+    ∷ (113 ∷ 100 ∷ 100 ∷ [])
+    ∷ (113 ∷ 113 ∷ 100 ∷ [])
+    ∷ (100 ∷ [])
+    ∷ (100 ∷ 100 ∷ [])
+    ∷ (47_912_000_000 ∷ 4_520_000_000 ∷ [])
+    ∷ []
+narrow_worked_out = examples.narrow_worked_out
+
+-- By the theorem: the ground storey of three below a top storey that is narrow, with one between them that is not; and a ground storey of two that is
+-- narrow itself, below one of just 4,000 mm.
+pub narrow_used : (narrow (by_sides (5000 ∷ 5000 ∷ 3600 ∷ [])) 1 ≡ 113) × (narrow (by_sides (3999 ∷ 4000 ∷ [])) 1 ≡ 100)
+unfolding storeys_and_ends
+narrow_used = (
+  (narrow_above (by_sides (5000 ∷ 5000 ∷ 3600 ∷ [])) (omega arith) 1 (omega arith)).0 3 (omega arith) (omega arith) (omega arith),
+  (narrow_above (by_sides (3999 ∷ 4000 ∷ [])) (omega arith) 1 (omega arith)).1 (λ above higher last.
+      let upper : above ≡ 2 = omega (arith, higher, last) in
+      rw upper (le_refl 4000)),
+)
 
 -- Demand 2: the scores and the record
 

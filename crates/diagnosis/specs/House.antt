@@ -1,6 +1,6 @@
 -- What document 01 defines of a house, over its table: "Held strength" to "Score and verdict", each by `method`'s definition on what the rows say.
 -- Storeys and directions count from 1, as in document 01.
-use Rattle.std.specs.Prelude.{Bool, cond, ◌&&◌, List, [], ◌∷◌, ℕ, ◌+◌, ◌*◌, ◌/◌, ◌≤◌, max, min, length, eqb, leb}
+use Rattle.std.specs.Prelude.{Bool, cond, ◌&&◌, ◌||◌, List, [], ◌∷◌, ℕ, ◌+◌, ◌*◌, ◌/◌, ◌≤◌, max, min, length, eqb, leb}
 use Rattle.answer.specs.Lists.{joined}
 use Rattle.survey.specs.Table.{storeys}
 use Rattle.survey.specs.Walls.{storey_walls}
@@ -11,7 +11,7 @@ use Rattle.method.specs.declared.rows.Strengths.{Strengths}
 use Rattle.method.specs.declared.rows.Bands.{Bands}
 use Rattle.method.specs.declared.scores.Quotient.{Quotient}
 use Rattle.method.specs.Held.{wall_share, held_strength}
-use Rattle.method.specs.Required.{narrow_factor, required_strength}
+use Rattle.method.specs.Required.{is_narrow, narrow_factor, required_strength}
 use Rattle.method.specs.LayoutFactor.{band, floor_type, layout_factor}
 use Rattle.method.specs.Deterioration.{deterioration_factor, after_repair}
 use Rattle.method.specs.Score.{quotient, limited, score_before_layout, verdict}
@@ -58,9 +58,14 @@ end_held table storey direction end = held_where (λ walls. solid_at_end walls d
 
 -- Required strength
 
--- The narrow factor of a storey of the house, which its ends take too.
+-- The house has this storey, and the storey is narrow.
+unfoldable pub narrow_storey : List ℕ → ℕ → Bool
+narrow_storey table storey = leb storey (storeys table) && is_narrow (storey_of table storey)
+
+-- The narrow factor of a storey of the house, which its ends take too: "every storey below" a narrow one "takes 113, once, however many are narrow
+-- above" (document 02, request 6). So a storey goes by the storeys above it, which are at most two, and not by its own short side.
 unfoldable pub narrow : List ℕ → ℕ → ℕ
-narrow table storey = narrow_factor (house_of table) (storey_of table storey)
+narrow table storey = narrow_factor (narrow_storey table (storey + 1) || narrow_storey table (storey + 2))
 
 -- What is required of a part of the house, a storey or an end of it. "An end uses its own area, its part's number of storeys for the constant,
 -- and its storey's other factors."

@@ -1,11 +1,12 @@
 -- The houses that the examples of this crate speak of: those of document 01, "Houses worked through", houses and records with what is left over of a
--- score (document 02, request 4), repaired ones among them (request 5), and pairs to which demand 3 applies.
-use Rattle.std.specs.Prelude.{List, [], ◌∷◌, ◌++◌, ℕ, ◌+◌, ◌*◌, get_or, set}
+-- score (document 02, request 4), repaired ones among them (request 5), houses by their short sides (request 6), and pairs to which demand 3 applies.
+use Rattle.std.specs.Prelude.{List, [], ◌∷◌, ◌++◌, ℕ, suc, ◌+◌, ◌*◌, length, get_or, set}
 use Rattle.answer.specs.Text.{bytes}
 use Rattle.answer.specs.Houses.{two_storeys}
+use Rattle.answer.specs.Lists.{joined}
 use Rattle.survey.specs.Table.{parts_row}
 use Rattle.diagnosis.specs.Rows.{snow_column, repaired_column}
-use Rattle.diagnosis.specs.House.{higher_band, score_before, scores}
+use Rattle.diagnosis.specs.House.{narrow, higher_band, score_before, scores}
 use Rattle.diagnosis.specs.Answers.{ToldRecord, scoring}
 
 -- P1's report, the three lines that document 01 prints.
@@ -193,6 +194,19 @@ weak_joints =
     ∷ 5 ∷ 8191 ∷ 0 ∷ 0 ∷ 0 ∷ 0 ∷ 0 ∷ 0
     ∷ 8 ∷ 19800401 ∷ 19801001 ∷ 20120401 ∷ 0 ∷ 0 ∷ 0 ∷ 0
     ∷ []
+
+-- The first rows of a heavy house by the short sides of its storeys, from the ground up: its row, storeys of 40 m², and the ground storey's ends in X, of
+-- 10 m² and of parts of one storey. Column 4 of the ends, an area, would be narrow if it were taken for a short side.
+unfoldable pub storeys_and_ends : ℕ → List ℕ → List ℕ
+storeys_and_ends storey [] = 3 ∷ 1 ∷ 1 ∷ 1000 ∷ 1000 ∷ 1 ∷ 1 ∷ 0 ∷ []
+storeys_and_ends storey (side ∷ above) = 2 ∷ storey ∷ 4000 ∷ side ∷ 1 ∷ 0 ∷ 0 ∷ 0 ∷ storeys_and_ends (suc storey) above
+
+abbrev pub by_sides : List ℕ → List ℕ
+by_sides sides = 1 ∷ length sides ∷ 2 ∷ 100 ∷ 1 ∷ 1 ∷ 0 ∷ 0 ∷ storeys_and_ends 1 sides
+
+-- Its narrow factors, from the ground up.
+abbrev pub narrow_factors : List ℕ → List ℕ
+narrow_factors sides = joined (length sides) (λ below. narrow (by_sides sides) (below + 1) ∷ [])
 
 -- Of a house of two storeys: its scores, its scores before the layout factor, and the bands of its better ends, storey by storey, X before Y.
 abbrev pub by_place : (ℕ → ℕ → ℕ) → List ℕ

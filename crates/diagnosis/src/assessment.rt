@@ -7,7 +7,7 @@ use crate::held::HeldSums;
 use calendar::age_on;
 use method::{
     Bands, Fraction, HousePart, Quotient, Strengths, after_repair, band, deterioration_factor,
-    floor_type, layout_factor, limited, narrow_factor, required_strength, score,
+    floor_type, is_narrow, layout_factor, limited, narrow_factor, required_strength, score,
 };
 
 // Held strength in 0.000001 kN, required strength in 0.000000001 kN, layout factor in hundredths, score;
@@ -41,8 +41,8 @@ pub struct HouseAssessment {
 const HIGHEST_SCORE: u32 = 999;
 
 impl AcceptedTable<'_> {
-    ghost use Rattle.std.specs.Prelude.{◌≡◌};
-    ghost use Rattle.diagnosis.specs.House.{deterioration, assessment_with};
+    ghost use Rattle.std.specs.Prelude.{◌≡◌, ◌≤◌};
+    ghost use Rattle.diagnosis.specs.House.{narrow_storey, narrow, deterioration, assessment_with};
     ghost use Rattle.diagnosis.specs.Internal.{part_band, Assessable, WorkedOut, direction_number};
 
     // The deterioration factor, by the house's age on the survey day and by whether it was repaired.
@@ -53,6 +53,24 @@ impl AcceptedTable<'_> {
         let age = age_on(dates.completion, dates.survey);
         let factor = deterioration_factor(self.items(), age);
         after_repair(factor, u32::from(self.repaired()))
+    }
+
+    // Whether the house has this storey and it is narrow.
+    #[tactic(auto, using(std::proofs::lemmas::Bool::Decides::nat_tests), unfolding(crate::specs::House::narrow_storey))]
+    fn narrow_storey(&self, storey: u32) -> bool
+        ensures { result ≡ narrow_storey self.now.table.now storey }
+    {
+        storey <= self.house.storeys && is_narrow(self.storey(storey))
+    }
+
+    // The narrow factor of a storey, which its ends take too: by the storeys above it, of which there are at
+    // most two.
+    #[tactic(auto, unfolding(crate::specs::House::narrow))]
+    fn narrow_factor(&self, storey: u32) -> u8
+        requires { storey ≤ 3 }
+        ensures { result ≡ narrow self.now.table.now storey }
+    {
+        narrow_factor(self.narrow_storey(storey + 1) || self.narrow_storey(storey + 2))
     }
 
     // The band of an end, by its storey's narrow factor and what its solid walls hold.
@@ -76,7 +94,7 @@ impl AcceptedTable<'_> {
         ensures { result ≡ assessment_with self.now.table.now sums.all storey (direction_number direction) }
     {
         let row = self.storey(storey);
-        let narrow = narrow_factor(self.house, row);
+        let narrow = self.narrow_factor(storey);
         let held = sums.all;
         let required = required_strength(self.house, self.storey_part(row), narrow);
         let end_a = self.end_part(storey, direction, End::A);

@@ -1,8 +1,7 @@
 -- The required strength never falls with weight class, zone, ground or snow, is positive, and has a most. Assumes nothing.
-use Rattle.std.proofs.Common.{◌≡◌, refl, Bool, true, not, ◌&&◌, ◌||◌, List, [], ℕ, ◌+◌, ◌-◌, ◌*◌, ◌<◌, ◌≤◌, zero-le, add-le-add, mul-le-mul, mul-pos, le_refl, le_trans, arith, get_or, unwrap_or, eqb, leb, ltb, lit≤, leb-true, ltb-true, ltb-false, le-leb, le-ltb}
+use Rattle.std.proofs.Common.{◌≡◌, refl, Bool, true, not, ◌&&◌, ◌||◌, List, [], ℕ, ◌+◌, ◌-◌, ◌*◌, ◌<◌, ◌≤◌, zero-le, add-le-add, mul-le-mul, mul-pos, le_refl, le_trans, arith, get_or, unwrap_or, leb, ltb, lit≤, leb-true, ltb-true, ltb-false, le-leb, le-ltb}
 use Rattle.std.proofs.lemmas.Bool.Decides.{nat_tests}
 use Rattle.method.specs.declared.rows.House.{House}
-use Rattle.method.specs.declared.rows.Storey.{Storey}
 use Rattle.method.specs.declared.rows.HousePart.{HousePart}
 use Rattle.method.specs.Printed.{nth, numbered}
 use Rattle.method.specs.Required.{constants, snow_additions, top_line, constant, snow_addition, per_area, ground_factor, narrow_factor, required_strength, most_required}
@@ -107,18 +106,13 @@ unfolding ground_factor
 ground_most ground_class = cond_most (ltb ground_class 2) (λ e. lit≤ tt) (λ e. lit≤ tt)
 
 -- The narrow factor is 100 or 113.
-pub narrow_least : (house : House) (storey : Storey) → 100 ≤ narrow_factor house storey
+pub narrow_least : (narrow_above : Bool) → 100 ≤ narrow_factor narrow_above
 unfolding narrow_factor
-narrow_least house storey = cond_least (leb 2 house.storeys && eqb storey.number 1 && ltb storey.side 4000) (λ e. lit≤ tt) (λ e. lit≤ tt)
+narrow_least narrow_above = cond_least narrow_above (λ e. lit≤ tt) (λ e. lit≤ tt)
 
-pub narrow_most : (house : House) (storey : Storey) → narrow_factor house storey ≤ 113
+pub narrow_most : (narrow_above : Bool) → narrow_factor narrow_above ≤ 113
 unfolding narrow_factor
-narrow_most house storey = cond_most (leb 2 house.storeys && eqb storey.number 1 && ltb storey.side 4000) (λ e. lit≤ tt) (λ e. lit≤ tt)
-
--- Of a house it takes the storeys alone.
-pub narrow_same : (house other : House) → house.storeys ≡ other.storeys → (storey : Storey) → narrow_factor house storey ≡ narrow_factor other storey
-unfolding narrow_factor
-narrow_same house other storeys storey = rw storeys
+narrow_most narrow_above = cond_most narrow_above (λ e. lit≤ tt) (λ e. lit≤ tt)
 
 -- No constant is above 207.
 pub constant_most : (part : HousePart) (weight : ℕ) → constant part weight ≤ 207

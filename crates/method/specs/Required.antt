@@ -1,5 +1,5 @@
 -- The strength that a storey, or an end of it, must have. Document 01, "Required strength". "Unit: 0.000000001 kN."
-use Rattle.std.specs.Prelude.{cond, ◌&&◌, List, [], ◌∷◌, ℕ, ◌+◌, ◌-◌, ◌*◌, get_or, eqb, leb, ltb}
+use Rattle.std.specs.Prelude.{Bool, cond, ◌&&◌, List, [], ◌∷◌, ℕ, ◌+◌, ◌-◌, ◌*◌, get_or, eqb, leb, ltb}
 use Rattle.method.specs.declared.rows.House.{House}
 use Rattle.method.specs.declared.rows.Storey.{Storey}
 use Rattle.method.specs.declared.rows.HousePart.{HousePart}
@@ -46,10 +46,14 @@ per_area house part = constant part house.weight + snow_addition house.snow
 unfoldable pub ground_factor : ℕ → ℕ
 ground_factor ground_class = cond (ltb ground_class 2) 10 15
 
--- "The narrow factor is 113 for the ground storey of two or three storeys whose short side is under 4,000 mm, else 100." The storeys are
--- the house's, which has at most three.
-unfoldable pub narrow_factor : House → Storey → ℕ
-narrow_factor house storey = cond (leb 2 house.storeys && eqb storey.number 1 && ltb storey.side 4000) 113 100
+-- A storey is narrow "if a storey's short side is under 4,000 mm" (document 02, request 6).
+unfoldable pub is_narrow : Storey → Bool
+is_narrow storey = ltb storey.side 4000
+
+-- The narrow factor of a storey, by whether a storey above it is narrow: "every storey below it takes 113, once, however many are narrow above", else
+-- 100. Document 01's sentence, by which the ground storey's own short side counted, no longer holds.
+unfoldable pub narrow_factor : Bool → ℕ
+narrow_factor narrow_above = cond narrow_above 113 100
 
 -- "Constant in 0.01 kN/m² × area × zone × ground (..) × narrow factor in hundredths." "An end uses its own area, its part's number of storeys
 -- for the constant, and its storey's other factors": so for a storey the storeys are the house's, for an end its part's. The addition for snow is

@@ -11,7 +11,7 @@ use Rattle.method.specs.declared.rows.Bands.{Bands}
 use Rattle.method.specs.declared.scores.Quotient.{Quotient}
 use Rattle.method.specs.JointTables.{at2, at3, at5, at7}
 use Rattle.method.specs.Held.{entry, below2, from2to3, from3to5, from5to7, above7, joint_factor, wall_share}
-use Rattle.method.specs.Required.{constant, narrow_factor, required_strength}
+use Rattle.method.specs.Required.{constant, is_narrow, narrow_factor, required_strength}
 use Rattle.method.specs.LayoutFactor.{band, floor_type, layout_factor, by_floor_type}
 use Rattle.method.specs.Deterioration.{item_points, item_points_under_ten, points, fraction, deterioration_factor, after_repair}
 use Rattle.method.specs.Score.{quotient, score, score_before_layout, capped_quotient, verdict}
@@ -107,11 +107,10 @@ worked =
     ∷ constant (house_part 1 3 4000) 3  -- three storeys, very heavy, from the ground up
     ∷ constant (house_part 2 3 4000) 3
     ∷ constant (house_part 3 3 4000) 3
-    ∷ narrow_factor (house 2 1 100 1 1) (storey 1 3999 1 0)  -- "Run: .. short side 3,999 and 4,000"
-    ∷ narrow_factor (house 2 1 100 1 1) (storey 1 4000 1 0)
-    ∷ narrow_factor (house 2 1 100 1 1) (storey 2 3999 1 0)  -- the upper storey
-    ∷ narrow_factor (house 1 1 100 1 1) (storey 1 3999 1 0)  -- one storey
-    ∷ required_strength (house 2 2 100 2 1) (house_part 1 2 4000) 113  -- narrow ground storey of two, heavy, 40 m², zone 100, on very soft ground
+    ∷ narrow_factor (is_narrow (storey 2 3999 1 0))  -- "Run: .. short side 3,999 and 4,000", of the storeys below
+    ∷ narrow_factor (is_narrow (storey 2 4000 1 0))
+    ∷ required_strength (house 2 2 100 2 1) (house_part 1 2 4000) 113  -- 113: ground storey of two, heavy, 40 m², zone 100, very soft ground
+    ∷ required_strength (house 2 2 100 1 1) (house_part 1 1 1000) 113  -- an end of it, of 10 m² and one storey, ordinary ground
     ∷ band (strengths 32 100_000)  -- a hundredth under each limit, and the limits that P9 leaves out
     ∷ band (strengths 65 100_000)
     ∷ band (strengths 66 100_000)
@@ -168,7 +167,7 @@ worked =
     ∷ required_strength (snowy_house 1 2 100 1 1 1) (house_part 1 1 4000) 100  -- P1 under 1 m, 2 m and 2.5 m
     ∷ required_strength (snowy_house 1 2 100 1 1 2) (house_part 1 1 4000) 100
     ∷ required_strength (snowy_house 1 2 100 1 1 3) (house_part 1 1 4000) 100
-    ∷ required_strength (snowy_house 2 2 90 2 1 1) (house_part 1 2 4000) 113  -- narrow, in zone 90 on very soft ground: the sum is multiplied
+    ∷ required_strength (snowy_house 2 2 90 2 1 1) (house_part 1 2 4000) 113  -- with 113, in zone 90 on very soft ground: the sum is multiplied
     ∷ required_strength (snowy_house 2 2 100 1 1 2) (house_part 1 1 1000) 100  -- an end of one storey in a house of two
     ∷ joint_factor (snowy_house 1 2 100 1 1 4) 1 (wall 1 1 20 1000)  -- there is no snow 4: no entry, and no addition
     ∷ required_strength (snowy_house 1 2 100 1 1 4) (house_part 1 1 4000) 100
@@ -250,9 +249,8 @@ expected =
     ∷ 91
     ∷ 113  -- narrow factors
     ∷ 100
-    ∷ 100
-    ∷ 100
     ∷ 71_868_000_000
+    ∷ 4_520_000_000
     ∷ 0  -- bands
     ∷ 1
     ∷ 2

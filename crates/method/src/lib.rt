@@ -24,7 +24,7 @@ pub use deterioration::{Fraction, after_repair, deterioration_factor};
 pub use held::wall_share;
 pub use joints::joint_factor;
 pub use layout::{band, floor_type, layout_factor};
-pub use required::{narrow_factor, required_strength};
+pub use required::{is_narrow, narrow_factor, required_strength};
 pub use rows::{Bands, House, HousePart, Items, Storey, Strengths, Wall};
 pub use scores::{Quotient, limited, score, verdict};
 pub use verdicts::Verdict;

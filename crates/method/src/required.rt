@@ -1,8 +1,8 @@
 // The strength that a storey, or an end of it, must have, in 0.000000001 kN.
-#![tactic(auto, using(std::proofs::lemmas::Bool::Decides::nat_tests, crate::proofs::Requirements::addition_numbered), unfolding(crate::specs::Required::top_line, crate::specs::Required::per_area, crate::specs::Required::ground_factor, crate::specs::Required::narrow_factor, crate::specs::Required::required_strength))]
+#![tactic(auto, using(std::proofs::lemmas::Bool::Decides::nat_tests, crate::proofs::Requirements::addition_numbered), unfolding(crate::specs::Required::top_line, crate::specs::Required::per_area, crate::specs::Required::ground_factor, crate::specs::Required::is_narrow, crate::specs::Required::narrow_factor, crate::specs::Required::required_strength))]
 
 ghost use Rattle.std.specs.Prelude.{◌≡◌, unwrap_or};
-ghost use Rattle.method.specs.Required.{top_line, constant, snow_addition, per_area, ground_factor, narrow_factor, required_strength};
+ghost use Rattle.method.specs.Required.{top_line, constant, snow_addition, per_area, ground_factor, is_narrow, narrow_factor, required_strength};
 
 use crate::printed::numbered;
 use crate::rows::{House, HousePart, Storey};
@@ -68,15 +68,18 @@ fn ground_factor(ground_class: u32) -> u8
     if ground_class < 2 { 10 } else { 15 }
 }
 
-// The narrow factor of a storey of a house, in hundredths.
-pub fn narrow_factor(house: House, storey: Storey) -> u8
-    ensures { result ≡ narrow_factor house storey }
+// Whether a storey is narrow, by its short side.
+pub fn is_narrow(storey: Storey) -> bool
+    ensures { result ≡ is_narrow storey }
 {
-    if 2 <= house.storeys && storey.number == 1 && storey.side < 4000 {
-        113
-    } else {
-        100
-    }
+    storey.side < 4000
+}
+
+// The narrow factor of a storey, in hundredths, by whether a storey above it is narrow.
+pub fn narrow_factor(narrow_above: bool) -> u8
+    ensures { result ≡ narrow_factor narrow_above }
+{
+    if narrow_above { 113 } else { 100 }
 }
 
 // What is required of a part of the house, a storey or an end of it, by its storey's narrow factor in

@@ -14,34 +14,36 @@ const CONSTANTS: [&[[u64; 3]]; 3] = [
 /// 2 m; 65 for 2.5 m is the same straight line carried on.
 const ADDITIONS: [u64; 4] = [0, 26, 52, 65];
 
-/// The required strength of a storey, the same in both directions.
-pub fn storey(house: &House, storey: &Storey) -> u64 {
-    strength(house, storey, storey.area, house.storeys)
+/// The required strength of a storey, the same in both directions, by its narrow factor.
+pub fn storey(house: &House, storey: &Storey, narrow: u64) -> u64 {
+    per_area(house, storey.number, house.storeys) * u64::from(storey.area) * narrow
 }
 
-/// The required strengths of a storey's ends a and b.
-pub fn ends(house: &House, storey: &Storey, ends: &Ends) -> [u64; 2] {
-    [0, 1].map(|end| strength(house, storey, ends.areas[end], ends.storeys[end]))
+/// The required strengths of a storey's ends a and b, which have its narrow factor too.
+pub fn ends(house: &House, storey: &Storey, narrow: u64, ends: &Ends) -> [u64; 2] {
+    [0, 1].map(|end| {
+        per_area(house, storey.number, ends.storeys[end]) * u64::from(ends.areas[end]) * narrow
+    })
 }
 
-fn strength(house: &House, storey: &Storey, area: u32, part_storeys: u32) -> u64 {
-    let ground = if house.ground == 1 { 10 } else { 15 };
-    (constant(house.weight, part_storeys, storey.number) + ADDITIONS[house.snow as usize])
-        * u64::from(area)
-        * u64::from(house.zone)
-        * ground
-        * narrow_factor(house, storey)
-}
-
-fn constant(weight: u32, storeys: u32, storey: u32) -> u64 {
-    CONSTANTS[storeys as usize - 1][storey as usize - 1][weight as usize - 1]
-}
-
-/// In hundredths.
-fn narrow_factor(house: &House, storey: &Storey) -> u64 {
-    if house.storeys > 1 && storey.number == 1 && storey.short_side < 4_000 {
+/// In hundredths, by the storeys above the one whose factor it is. Document 02's request 6: a storey narrower than 4 m
+/// gives "every storey below it" 113, "once, however many are narrow above".
+pub fn narrow_factor(mut above: impl Iterator<Item = Storey>) -> u64 {
+    if above.any(|storey| storey.short_side < 4_000) {
         113
     } else {
         100
     }
+}
+
+/// By the number of a storey and the storeys of the part it stands in, before the narrow factor.
+fn per_area(house: &House, storey: u32, part_storeys: u32) -> u64 {
+    let ground = if house.ground == 1 { 10 } else { 15 };
+    (constant(house.weight, part_storeys, storey) + ADDITIONS[house.snow as usize])
+        * u64::from(house.zone)
+        * ground
+}
+
+fn constant(weight: u32, storeys: u32, storey: u32) -> u64 {
+    CONSTANTS[storeys as usize - 1][storey as usize - 1][weight as usize - 1]
 }

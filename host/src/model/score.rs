@@ -25,6 +25,8 @@ pub struct Assessment {
     pub held: u64,
     /// In 0.000000001 kN.
     pub required: u64,
+    /// The same of the ends a and b.
+    pub required_of_ends: [u64; 2],
     /// Of the ends a and b.
     pub bands: [Band; 2],
     /// In hundredths.
@@ -75,13 +77,16 @@ impl<'table> Diagnosis<'table> {
         let house = &self.survey.house;
         let level = self.survey.storey(storey);
         let held = self.held[storey as usize - 1][direction as usize - 1];
-        let required = required::ends(house, &level, &self.survey.ends(storey, direction));
-        let bands = [0, 1].map(|end| Band::of(held.ends[end], required[end]));
+        let narrow = required::narrow_factor(self.survey.storeys_above(storey));
+        let ends = self.survey.ends(storey, direction);
+        let required_of_ends = required::ends(house, &level, narrow, &ends);
+        let bands = [0, 1].map(|end| Band::of(held.ends[end], required_of_ends[end]));
         Assessment {
             storey,
             direction,
             held: held.total,
-            required: required::storey(house, &level),
+            required: required::storey(house, &level, narrow),
+            required_of_ends,
             bands,
             layout: layout::factor(bands, &level),
             deterioration: self.deterioration,

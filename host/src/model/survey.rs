@@ -99,6 +99,11 @@ impl Survey<'_> {
         }
     }
 
+    /// The storeys above one, from the next one up.
+    pub fn storeys_above(&self, storey: u32) -> impl Iterator<Item = Storey> {
+        (storey + 1..=self.house.storeys).map(|above| self.storey(above))
+    }
+
     pub fn ends(&self, storey: u32, direction: u32) -> Ends {
         let index = 2 * (storey - 1) + direction - 1;
         let [_, _, _, area_a, area_b, storeys_a, storeys_b, _] = self.ends[index as usize];

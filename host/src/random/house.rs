@@ -57,6 +57,15 @@ pub fn snow_of(table: &[u32]) -> usize {
     table[7] as usize
 }
 
+/// The short sides of a house's storeys, from the ground up, by its table.
+pub fn short_sides_of(table: &[u32]) -> Vec<u32> {
+    let rows = table.as_chunks::<ROW>().0;
+    rows[1..=table[1] as usize]
+        .iter()
+        .map(|row| row[3])
+        .collect()
+}
+
 /// The start of work, the completion and the survey day of a house, by its table.
 pub fn dates_of(table: &[u32]) -> [u32; 3] {
     let survey = survey_day(table);

@@ -1,6 +1,6 @@
 -- `AcceptedTable::assess_direction` meets its contract. Assumes nothing.
 use Rattle.std.proofs.Common.{◌≡◌, ◌∙◌}
-use Rattle.diagnosis.specs.House.{narrow, required_of, required, end_required, end_band, storey_floor_type, layout, score_with}
+use Rattle.diagnosis.specs.House.{required_of, required, end_required, end_band, storey_floor_type, layout, score_with}
 use Rattle.diagnosis.specs.Internal.{direction_number}
 use Rattle.diagnosis.proofs.Assessments.{quotient_is}
 use Rattle.diagnosis.proofs.accepted.AcceptedTable.assess_direction.Goals as goal
@@ -8,14 +8,14 @@ use Rattle.diagnosis.proofs.accepted.AcceptedTable.assess_direction.Goals.{After
 
 -- What is required of the storey.
 required-is : (c : After-required_strength-required) → c.required_strength-required.result ≡ required c.args.self.now.table.now c.args.storey
-unfolding required required_of narrow
+unfolding required required_of
 required-is c =
     c.required_strength-required.ensures
     ∙ rw (c.narrow_factor-narrow.ensures, c.storey_part.ensures, c.storey-row.ensures, c.args.self.now.of_house.row)
 
 -- The layout factor, by the bands of both ends and the floor type.
 layout_is : (c : After-layout_factor-layout) → c.layout_factor-layout.result ≡ layout c.args.self.now.table.now c.args.storey (direction_number c.args.direction)
-unfolding layout storey_floor_type end_band end_required required_of narrow
+unfolding layout storey_floor_type end_band end_required required_of
 layout_is c =
     c.layout_factor-layout.ensures
     ∙ rw (
