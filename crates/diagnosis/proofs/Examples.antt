@@ -34,7 +34,7 @@ use Rattle.diagnosis.specs.Answers.{ToldRecord, told_refused, Scoring, told_scor
 use Rattle.diagnosis.specs.Comparison.{score_at}
 use Rattle.diagnosis.specs.Report.{result_rows, report_rows, report_bytes, reporting, refusal_line}
 use Rattle.diagnosis.specs.Program.{most_numbers, table_of, diagnosing, after_diagnosing, most_report_bytes, output}
-use Rattle.diagnosis.specs.Worked.{p1_report, p1_record, sound_record, all_worse_record, like_p1, small_floor, with_parts, repaired_with_parts, with_middle_wall, on_the_ground, p10, under_ten_day, ten_day, storeys_and_ends, by_sides, narrow_factors, sound, heavy, zone100, soft_ground, over_ten, more_marks, all_worse, started_on, under_snow, snowy_sound, snowy_worse, repaired_sound, repaired_worse, weak_joints, figures, same_bands}
+use Rattle.diagnosis.specs.Worked.{p1_report, p1_record, sound_record, all_worse_record, like_p1, small_floor, with_parts, repaired_with_parts, with_middle_wall, on_the_ground, p10, under_ten_day, ten_day, storeys_and_ends, worked_narrow, expected_narrow, sound, heavy, zone100, soft_ground, over_ten, more_marks, all_worse, started_on, under_snow, snowy_sound, snowy_worse, repaired_sound, repaired_worse, weak_joints, figures, same_bands}
 
 -- P1's sheet can be read, and is P1's table.
 p1_read : reading p1_sheet most_numbers ≡ counted 12
@@ -499,26 +499,6 @@ unfolding scoring
 refused_record = rw started_judged.2
 
 -- Narrow factors from the ground up, and below a narrow storey what is required of the ground storey and of its end a.
-pub narrow_worked_out :
-    (
-    narrow_factors (5000 ∷ 3999 ∷ [])
-    ∷ narrow_factors (3999 ∷ 5000 ∷ [])
-    ∷ narrow_factors (5000 ∷ 5000 ∷ 3600 ∷ [])
-    ∷ narrow_factors (5000 ∷ 3600 ∷ 5000 ∷ [])
-    ∷ narrow_factors (5000 ∷ 3600 ∷ 3600 ∷ [])
-    ∷ narrow_factors (3999 ∷ [])
-    ∷ narrow_factors (5000 ∷ 4000 ∷ [])
-    ∷ (required (by_sides (5000 ∷ 3999 ∷ [])) 1 ∷ end_required (by_sides (5000 ∷ 3999 ∷ [])) 1 1 end_a ∷ [])
-    ∷ []
-    )
-    ≡ (113 ∷ 100 ∷ [])
-    ∷ (100 ∷ 100 ∷ [])
-    ∷ (113 ∷ 113 ∷ 100 ∷ [])
-    ∷ (113 ∷ 100 ∷ 100 ∷ [])
-    ∷ (113 ∷ 113 ∷ 100 ∷ [])
-    ∷ (100 ∷ [])
-    ∷ (100 ∷ 100 ∷ [])
-    ∷ (47_912_000_000 ∷ 4_520_000_000 ∷ [])
-    ∷ []
+pub narrow_worked_out : worked_narrow ≡ expected_narrow
 unfolding sound_figures joined storeys_and_ends
 narrow_worked_out = refl

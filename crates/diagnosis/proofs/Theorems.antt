@@ -10,13 +10,13 @@ use Rattle.sheet.specs.Sheet.{writing, after_writing}
 use Rattle.survey.specs.Table.{cell, storeys}
 use Rattle.survey.specs.Judgement.{judging, within}
 use Rattle.method.specs.Worked.{worked, expected}
-use Rattle.diagnosis.specs.Rows.{storey_of, end_a, weight, zone, ground_class, marked, repaired, survey_day}
-use Rattle.diagnosis.specs.House.{InHouse, held, narrow, required, end_required, layout, higher_band, deterioration, score_before, full_score, least_score, house_verdict}
+use Rattle.diagnosis.specs.Rows.{storey_of, weight, zone, ground_class, marked, repaired, survey_day}
+use Rattle.diagnosis.specs.House.{InHouse, held, narrow, required, layout, higher_band, deterioration, score_before, full_score, least_score, house_verdict}
 use Rattle.diagnosis.specs.Answers.{Scoring, told_scoring, record_of, scoring}
 use Rattle.diagnosis.specs.Report.{report_rows, report_lines, report_bytes, reporting}
 use Rattle.diagnosis.specs.Program.{table_of, diagnosing, after_diagnosing, most_report_bytes, output}
 use Rattle.diagnosis.specs.Comparison.{may_differ, NoLower, SameOrWorse, BandKept, score_at, NoBetter, Applies}
-use Rattle.diagnosis.specs.Worked.{p1_report, p1_record, sound_record, all_worse_record, small_floor, with_parts, repaired_with_parts, with_middle_wall, on_the_ground, p10, storeys_and_ends, by_sides, narrow_factors, sound, heavy, zone100, soft_ground, over_ten, more_marks, all_worse, started_on, under_snow, snowy_sound, snowy_worse, as_repaired, repaired_sound, repaired_worse, weak_joints, figures, same_bands}
+use Rattle.diagnosis.specs.Worked.{p1_report, p1_record, sound_record, all_worse_record, small_floor, with_parts, repaired_with_parts, with_middle_wall, on_the_ground, p10, storeys_and_ends, by_sides, worked_narrow, expected_narrow, sound, heavy, zone100, soft_ground, over_ten, more_marks, all_worse, started_on, under_snow, snowy_sound, snowy_worse, as_repaired, repaired_sound, repaired_worse, weak_joints, figures, same_bands}
 use Rattle.diagnosis.proofs.NarrowStoreys as narrow_storeys
 use Rattle.diagnosis.proofs.ScoreLists as score_lists
 use Rattle.diagnosis.proofs.RecordNumbers as record_numbers
@@ -35,29 +35,8 @@ pub narrow_above : (table : List ℕ) → storeys table ≤ 3 → (storey : ℕ)
     × (((above : ℕ) → storey < above → above ≤ storeys table → 4000 ≤ (storey_of table above).side) → narrow table storey ≡ 100)
 narrow_above table few storey some = (narrow_storeys.below_narrow table few storey some, narrow_storeys.below_wide table few storey some)
 
--- The narrow factors of houses by their short sides, both from the ground up; and, below a narrow storey, what is required of a ground storey of 40 m²
--- and of an end of it, of 10 m² and one storey.
-pub narrow_worked_out :
-    (
-    narrow_factors (5000 ∷ 3999 ∷ [])
-    ∷ narrow_factors (3999 ∷ 5000 ∷ [])
-    ∷ narrow_factors (5000 ∷ 5000 ∷ 3600 ∷ [])
-    ∷ narrow_factors (5000 ∷ 3600 ∷ 5000 ∷ [])
-    ∷ narrow_factors (5000 ∷ 3600 ∷ 3600 ∷ [])
-    ∷ narrow_factors (3999 ∷ [])
-    ∷ narrow_factors (5000 ∷ 4000 ∷ [])
-    ∷ (required (by_sides (5000 ∷ 3999 ∷ [])) 1 ∷ end_required (by_sides (5000 ∷ 3999 ∷ [])) 1 1 end_a ∷ [])
-    ∷ []
-    )
-    ≡ (113 ∷ 100 ∷ [])
-    ∷ (100 ∷ 100 ∷ [])
-    ∷ (113 ∷ 113 ∷ 100 ∷ [])
-    ∷ (113 ∷ 100 ∷ 100 ∷ [])
-    ∷ (113 ∷ 113 ∷ 100 ∷ [])
-    ∷ (100 ∷ [])
-    ∷ (100 ∷ 100 ∷ [])
-    ∷ (47_912_000_000 ∷ 4_520_000_000 ∷ [])
-    ∷ []
+-- The factors of seven houses; and, below a narrow storey, what is required of a ground storey and of an end of one storey.
+pub narrow_worked_out : worked_narrow ≡ expected_narrow
 narrow_worked_out = examples.narrow_worked_out
 
 -- By the theorem: the ground storey of three below a top storey that is narrow, with one between them that is not; and a ground storey of two that is

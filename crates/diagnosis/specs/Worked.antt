@@ -5,8 +5,8 @@ use Rattle.answer.specs.Text.{bytes}
 use Rattle.answer.specs.Houses.{two_storeys}
 use Rattle.answer.specs.Lists.{joined}
 use Rattle.survey.specs.Table.{parts_row}
-use Rattle.diagnosis.specs.Rows.{snow_column, repaired_column}
-use Rattle.diagnosis.specs.House.{narrow, higher_band, score_before, scores}
+use Rattle.diagnosis.specs.Rows.{end_a, snow_column, repaired_column}
+use Rattle.diagnosis.specs.House.{narrow, required, end_required, higher_band, score_before, scores}
 use Rattle.diagnosis.specs.Answers.{ToldRecord, scoring}
 
 -- P1's report, the three lines that document 01 prints.
@@ -207,6 +207,31 @@ by_sides sides = 1 ∷ length sides ∷ 2 ∷ 100 ∷ 1 ∷ 1 ∷ 0 ∷ 0 ∷ st
 -- Its narrow factors, from the ground up.
 abbrev pub narrow_factors : List ℕ → List ℕ
 narrow_factors sides = joined (length sides) (λ below. narrow (by_sides sides) (below + 1) ∷ [])
+
+-- Such houses' factors, and, below a narrow storey, what is required of the ground storey and of its end a, which is of 10 m² and one storey.
+abbrev pub worked_narrow : List (List ℕ)
+worked_narrow =
+    narrow_factors (5000 ∷ 3999 ∷ [])
+    ∷ narrow_factors (3999 ∷ 5000 ∷ [])
+    ∷ narrow_factors (5000 ∷ 5000 ∷ 3600 ∷ [])
+    ∷ narrow_factors (5000 ∷ 3600 ∷ 5000 ∷ [])
+    ∷ narrow_factors (5000 ∷ 3600 ∷ 3600 ∷ [])
+    ∷ narrow_factors (3999 ∷ [])
+    ∷ narrow_factors (5000 ∷ 4000 ∷ [])
+    ∷ (required (by_sides (5000 ∷ 3999 ∷ [])) 1 ∷ end_required (by_sides (5000 ∷ 3999 ∷ [])) 1 1 end_a ∷ [])
+    ∷ []
+
+abbrev pub expected_narrow : List (List ℕ)
+expected_narrow =
+    (113 ∷ 100 ∷ [])
+    ∷ (100 ∷ 100 ∷ [])
+    ∷ (113 ∷ 113 ∷ 100 ∷ [])
+    ∷ (113 ∷ 100 ∷ 100 ∷ [])
+    ∷ (113 ∷ 113 ∷ 100 ∷ [])
+    ∷ (100 ∷ [])
+    ∷ (100 ∷ 100 ∷ [])
+    ∷ (47_912_000_000 ∷ 4_520_000_000 ∷ [])
+    ∷ []
 
 -- Of a house of two storeys: its scores, its scores before the layout factor, and the bands of its better ends, storey by storey, X before Y.
 abbrev pub by_place : (ℕ → ℕ → ℕ) → List ℕ
