@@ -26,6 +26,8 @@ struct Tally {
     fallen_where_kept: [usize; 4],
     /// Of these, scores of repaired houses.
     repaired_fallen_where_kept: usize,
+    /// And of houses with a storey below a narrow one.
+    narrow_fallen_where_kept: usize,
     verdict_worse: usize,
     /// Surveyed later, by how many of the two are ten.
     later: [usize; 3],
@@ -97,6 +99,9 @@ fn compare(better: &[u32], worse: &[u32], tally: &mut Tally) {
     assert_eq!(house::snow_of(worse), snow);
     let repaired = house::repaired_of(better);
     assert_eq!(house::repaired_of(worse), repaired);
+    let sides = house::short_sides_of(better);
+    assert_eq!(house::short_sides_of(worse), sides);
+    let narrow_above = usize::from(sides[1..].iter().any(|&side| side < 4_000));
     let (a, b) = (scored(better), scored(worse));
     let count = a.record.count as usize;
     assert_eq!(b.record.count as usize, count);
@@ -114,6 +119,7 @@ fn compare(better: &[u32], worse: &[u32], tally: &mut Tally) {
             let fallen = usize::from(score_b < score_a);
             tally.fallen_where_kept[snow] += fallen;
             tally.repaired_fallen_where_kept += repaired * fallen;
+            tally.narrow_fallen_where_kept += narrow_above * fallen;
         } else {
             tally.risen_where_not_kept += usize::from(score_b > score_a);
         }
@@ -166,6 +172,7 @@ fn a_house_worse_off_is_not_scored_better() {
         tally.no_band_kept,
         tally.risen_where_not_kept,
         tally.repaired_fallen_where_kept,
+        tally.narrow_fallen_where_kept,
         tally.verdict_worse,
         tally.later[0],
         tally.later[1],

@@ -379,6 +379,7 @@ fn every_storey_below_a_narrow_one_takes_113() {
     ] {
         let table = by_short_sides(sides);
         let diagnosis = Diagnosis::of(&table).unwrap();
+        assert_eq!(diagnosis.assessments().count(), 2 * sides.len());
         for assessment in diagnosis.assessments() {
             let index = assessment.storey as usize - 1;
             let constant = CONSTANTS[sides.len() - 1][index];

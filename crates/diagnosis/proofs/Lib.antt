@@ -12,5 +12,5 @@ pub mod ReportNumbers
 pub mod Reporting
 pub mod Comparing
 pub mod Examples
-mod Pairs
+pub mod Pairs
 pub mod Theorems

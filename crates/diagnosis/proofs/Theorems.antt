@@ -39,15 +39,21 @@ narrow_above table few storey some = (narrow_storeys.below_narrow table few stor
 pub narrow_worked_out : worked_narrow ≡ expected_narrow
 narrow_worked_out = examples.narrow_worked_out
 
--- By the theorem: the ground storey of three below a top storey that is narrow, with one between them that is not; and a ground storey of two that is
--- narrow itself, below one of just 4,000 mm.
-pub narrow_used : (narrow (by_sides (5000 ∷ 5000 ∷ 3600 ∷ [])) 1 ≡ 113) × (narrow (by_sides (3999 ∷ 4000 ∷ [])) 1 ≡ 100)
+-- The theorem used of three storeys: the ground and the middle one below a narrow top storey; the ground one below a narrow middle storey; and the middle
+-- one, which is narrow itself, below a top storey of just 4,000 mm.
+pub narrow_used :
+    (narrow (by_sides (5000 ∷ 5000 ∷ 3999 ∷ [])) 1 ≡ 113)
+    × (narrow (by_sides (5000 ∷ 5000 ∷ 3999 ∷ [])) 2 ≡ 113)
+    × (narrow (by_sides (5000 ∷ 3999 ∷ 5000 ∷ [])) 1 ≡ 113)
+    × (narrow (by_sides (5000 ∷ 3999 ∷ 4000 ∷ [])) 2 ≡ 100)
 unfolding storeys_and_ends
 narrow_used = (
-  (narrow_above (by_sides (5000 ∷ 5000 ∷ 3600 ∷ [])) (omega arith) 1 (omega arith)).0 3 (omega arith) (omega arith) (omega arith),
-  (narrow_above (by_sides (3999 ∷ 4000 ∷ [])) (omega arith) 1 (omega arith)).1 (λ above higher last.
-      let upper : above ≡ 2 = omega (arith, higher, last) in
-      rw upper (le_refl 4000)),
+  (narrow_above (by_sides (5000 ∷ 5000 ∷ 3999 ∷ [])) (omega arith) 1 (omega arith)).0 3 (omega arith) (omega arith) (omega arith),
+  (narrow_above (by_sides (5000 ∷ 5000 ∷ 3999 ∷ [])) (omega arith) 2 (omega arith)).0 3 (omega arith) (omega arith) (omega arith),
+  (narrow_above (by_sides (5000 ∷ 3999 ∷ 5000 ∷ [])) (omega arith) 1 (omega arith)).0 2 (omega arith) (omega arith) (omega arith),
+  (narrow_above (by_sides (5000 ∷ 3999 ∷ 4000 ∷ [])) (omega arith) 2 (omega arith)).1 (λ above higher last.
+      let top : above ≡ 3 = omega (arith, higher, last) in
+      rw top (le_refl 4000)),
 )
 
 -- Demand 2: the scores and the record

@@ -1,4 +1,4 @@
--- The strength that a storey, or an end of it, must have. Document 01, "Required strength". "Unit: 0.000000001 kN."
+-- The strength that a storey, or an end of it, must have. Document 01, "Required strength"; document 02, requests 1 and 6. "Unit: 0.000000001 kN."
 use Rattle.std.specs.Prelude.{Bool, cond, ◌&&◌, List, [], ◌∷◌, ℕ, ◌+◌, ◌-◌, ◌*◌, get_or, eqb, leb, ltb}
 use Rattle.method.specs.declared.rows.House.{House}
 use Rattle.method.specs.declared.rows.Storey.{Storey}

@@ -1,4 +1,4 @@
-//! "Required strength". Its unit is 0.000000001 kN.
+//! "Required strength", and document 02's requests 1 and 6. Its unit is 0.000000001 kN.
 
 use super::survey::{Ends, House, Storey};
 
@@ -16,13 +16,13 @@ const ADDITIONS: [u64; 4] = [0, 26, 52, 65];
 
 /// The required strength of a storey, the same in both directions, by its narrow factor.
 pub fn storey(house: &House, storey: &Storey, narrow: u64) -> u64 {
-    per_area(house, storey.number, house.storeys) * u64::from(storey.area) * narrow
+    of_unit_area(house, storey.number, house.storeys) * u64::from(storey.area) * narrow
 }
 
 /// The required strengths of a storey's ends a and b, which have its narrow factor too.
 pub fn ends(house: &House, storey: &Storey, narrow: u64, ends: &Ends) -> [u64; 2] {
     [0, 1].map(|end| {
-        per_area(house, storey.number, ends.storeys[end]) * u64::from(ends.areas[end]) * narrow
+        of_unit_area(house, storey.number, ends.storeys[end]) * u64::from(ends.areas[end]) * narrow
     })
 }
 
@@ -36,8 +36,8 @@ pub fn narrow_factor(mut above: impl Iterator<Item = Storey>) -> u64 {
     }
 }
 
-/// By the number of a storey and the storeys of the part it stands in, before the narrow factor.
-fn per_area(house: &House, storey: u32, part_storeys: u32) -> u64 {
+/// What is required of 0.01 m², before the narrow factor, by the number of a storey and the storeys of the part it stands in.
+fn of_unit_area(house: &House, storey: u32, part_storeys: u32) -> u64 {
     let ground = if house.ground == 1 { 10 } else { 15 };
     (constant(house.weight, part_storeys, storey) + ADDITIONS[house.snow as usize])
         * u64::from(house.zone)
