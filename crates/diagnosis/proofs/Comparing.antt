@@ -1,9 +1,7 @@
 -- Demand 3: a house made worse scores no better. Assumes nothing.
 use Rattle.std.proofs.Common.{◌≡◌, refl, sym, ap, ◌∙◌, false, ◌&&◌, List, ℕ, ◌+◌, ◌*◌, ◌/◌, ◌%◌, ◌<◌, ◌≤◌, le_refl, le_of_eq, arith, eqb, bit_and, get_or, ne_eqb, eqb-true}
-use Rattle.std.proofs.lemmas.Bool.{lt-leb}
 use mathlib.Core.Path.{fun_ext}
 use mathlib.Core.Bool.{and-false}
-use native.Mathlib.Decide.{dec_le}
 use Rattle.calendar.proofs.Theorems.{later_no_younger}
 use Rattle.survey.specs.Table.{cell, storeys, ends_row, parts_row, dates_row}
 use Rattle.survey.specs.Judgement.{within}
@@ -20,11 +18,12 @@ use Rattle.method.proofs.Requirements.{required_rises}
 use Rattle.method.proofs.Fractions.{deterioration_falls, repair_falls}
 use Rattle.method.proofs.Comparisons.{score_before_falls, full_score_falls, verdict_rises}
 use Rattle.diagnosis.specs.Rows.{foundation, snow, house_of, storey_of, end_a, end_b, wall_of, present, marked, items_of, repaired, completion, survey_day, age}
-use Rattle.diagnosis.specs.House.{InHouse, share, held, end_held, narrow_storey, narrow, required_of, required, end_required, end_strengths, end_band, higher_band, storey_floor_type, layout, deterioration, strengths_with, score_before, score_with, quotient_with, full_score, scores, least_score, house_verdict}
+use Rattle.diagnosis.specs.House.{InHouse, share, held, end_held, narrow, required_of, required, end_required, end_strengths, end_band, higher_band, storey_floor_type, layout, deterioration, strengths_with, score_before, score_with, quotient_with, full_score, scores, least_score, house_verdict}
 use Rattle.diagnosis.specs.Answers.{record_of}
 use Rattle.diagnosis.specs.Comparison.{house_may_differ, parts_may_differ, dates_may_differ, may_differ, SameOrWorse, BandKept, NoBetter}
 use Rattle.diagnosis.proofs.ScoreLists.{scores_length, score_at_lem, record_score, record_told, least_falls, in_house_at}
 use Rattle.diagnosis.proofs.AcceptedTables.{required_some}
+use Rattle.diagnosis.proofs.NarrowStoreys.{factor_same}
 use Rattle.diagnosis.proofs.Assessments.{lower_some}
 
 module _ (A B : List ℕ) (w : SameOrWorse A B) where
@@ -122,26 +121,16 @@ module _ (A B : List ℕ) (w : SameOrWorse A B) where
       rw repaired_same (repair_falls _ _ (repaired B) old)
 
   -- A storey is neither the house nor the parts nor the dates.
-  module _ (storey : ℕ) (some : 1 ≤ storey) where
-    storey_same : (column : ℕ) → storey ≤ storeys A → column < 8 → cell A storey column ≡ cell B storey column
-    storey_same column last inside = row_same storey column (λ e. omega arith) (λ e. omega arith) (λ e. omega arith) inside
+  module _ (storey : ℕ) (some : 1 ≤ storey) (last : storey ≤ storeys A) where
+    storey_same : (column : ℕ) → column < 8 → cell A storey column ≡ cell B storey column
+    storey_same column inside = row_same storey column (λ e. omega arith) (λ e. omega arith) (λ e. omega arith) inside
 
-    storey_row_same : storey ≤ storeys A → storey_of A storey ≡ storey_of B storey
-    storey_row_same last =
-        rw (storey_same 2 last (omega arith), storey_same 3 last (omega arith), storey_same 4 last (omega arith), storey_same 5 last (omega arith))
-
-    -- It is narrow in both or in neither.
-    narrow_storey_same : narrow_storey A storey ≡ narrow_storey B storey
-    unfolding narrow_storey
-    narrow_storey_same = go (dec_le storey (storeys A))
-      where
-        go : Dec (storey ≤ storeys A) → narrow_storey A storey ≡ narrow_storey B storey
-        go (yes last) = rw (storeys_same, storey_row_same last)
-        go (no above) = rw (lt-leb storey (storeys A) (omega arith), lt-leb storey (storeys B) (omega (arith, storeys_same)))
+    storey_row_same : storey_of A storey ≡ storey_of B storey
+    storey_row_same =
+        rw (storey_same 2 (omega arith), storey_same 3 (omega arith), storey_same 4 (omega arith), storey_same 5 (omega arith))
 
   narrow_same : (storey : ℕ) → narrow A storey ≡ narrow B storey
-  unfolding narrow
-  narrow_same storey = rw (narrow_storey_same (storey + 1) (omega arith), narrow_storey_same (storey + 2) (omega arith))
+  narrow_same = factor_same A B storeys_same storey_row_same
 
   -- So what is required of a part is no less,
   required_of_rises : (a-part b-part : HousePart) → a-part ≡ b-part → required_of A a-part ≤ required_of B b-part
@@ -160,7 +149,7 @@ module _ (A B : List ℕ) (w : SameOrWorse A B) where
     -- nor of a storey,
     storey_required : required A storey ≤ required B storey
     unfolding required
-    storey_required = required_of_rises _ _ (rw (storeys_same, storey_same storey s.some_storey 2 s.last_storey (omega arith)))
+    storey_required = required_of_rises _ _ (rw (storeys_same, storey_same storey s.some_storey s.last_storey 2 (omega arith)))
 
     -- nor of an end.
     ends_same : (column : ℕ) → column < 8 → cell A (ends_row A storey direction) column ≡ cell B (ends_row B storey direction) column

@@ -1,6 +1,6 @@
 -- The laws about a table's diagnosis, and the theorems.
-pub mod AcceptedTables
 pub mod NarrowStoreys
+pub mod AcceptedTables
 pub mod Sums
 pub mod Places
 pub mod SixPlaces

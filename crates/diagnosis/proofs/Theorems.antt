@@ -39,21 +39,25 @@ narrow_above table few storey some = (narrow_storeys.below_narrow table few stor
 pub narrow_worked_out : worked_narrow ≡ expected_narrow
 narrow_worked_out = examples.narrow_worked_out
 
--- The theorem used of three storeys: the ground and the middle one below a narrow top storey; the ground one below a narrow middle storey; and the middle
--- one, which is narrow itself, below a top storey of just 4,000 mm.
+-- The theorem used: of two storeys, the ground one below a narrow one; of three, the ground and the middle one below a narrow top storey, the ground one
+-- below a narrow middle storey, and the middle one, which is narrow itself, below a top storey of just 4,000 mm; and of one that is narrow.
 pub narrow_used :
-    (narrow (by_sides (5000 ∷ 5000 ∷ 3999 ∷ [])) 1 ≡ 113)
+    (narrow (by_sides (5000 ∷ 3999 ∷ [])) 1 ≡ 113)
+    × (narrow (by_sides (5000 ∷ 5000 ∷ 3999 ∷ [])) 1 ≡ 113)
     × (narrow (by_sides (5000 ∷ 5000 ∷ 3999 ∷ [])) 2 ≡ 113)
     × (narrow (by_sides (5000 ∷ 3999 ∷ 5000 ∷ [])) 1 ≡ 113)
     × (narrow (by_sides (5000 ∷ 3999 ∷ 4000 ∷ [])) 2 ≡ 100)
+    × (narrow (by_sides (3999 ∷ [])) 1 ≡ 100)
 unfolding storeys_and_ends
 narrow_used = (
+  (narrow_above (by_sides (5000 ∷ 3999 ∷ [])) (omega arith) 1 (omega arith)).0 2 (omega arith) (omega arith) (omega arith),
   (narrow_above (by_sides (5000 ∷ 5000 ∷ 3999 ∷ [])) (omega arith) 1 (omega arith)).0 3 (omega arith) (omega arith) (omega arith),
   (narrow_above (by_sides (5000 ∷ 5000 ∷ 3999 ∷ [])) (omega arith) 2 (omega arith)).0 3 (omega arith) (omega arith) (omega arith),
   (narrow_above (by_sides (5000 ∷ 3999 ∷ 5000 ∷ [])) (omega arith) 1 (omega arith)).0 2 (omega arith) (omega arith) (omega arith),
   (narrow_above (by_sides (5000 ∷ 3999 ∷ 4000 ∷ [])) (omega arith) 2 (omega arith)).1 (λ above higher last.
       let top : above ≡ 3 = omega (arith, higher, last) in
       rw top (le_refl 4000)),
+  (narrow_above (by_sides (3999 ∷ [])) (omega arith) 1 (omega arith)).1 (λ above higher last. omega (arith, higher, last)),
 )
 
 -- Demand 2: the scores and the record
