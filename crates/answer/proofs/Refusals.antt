@@ -1,16 +1,16 @@
 -- What an answer tells, a refusal and a count; answers that are a count just where their number is 0. Assumes nothing.
-use Rattle.std.proofs.Common.{◌≡◌, refl, sym, ap, subst, ◌∙◌, Bool, true, false, cond, List, ℕ, T, eqb, Result, Ok, Err, get_or, [], ◌∷◌}
+use Rattle.std.proofs.Common.{lit<, ◌≡◌, refl, sym, ap, subst, ◌∙◌, Bool, true, false, cond, List, ℕ, ◌<◌, T, eqb, Result, Ok, Err, get_or, [], ◌∷◌}
 use borrow.Author.Tests.{eqb-false}
 use Rattle.answer.specs.declared.refusal.Reason.{Reason}
-use Rattle.answer.specs.declared.refusal.Reason.TheVariants.{SheetLength, Misprint, RowOutOfOrder, OutOfRange, TooManyWalls, EndsExceedStorey, MarkOnAbsentPart, NoParts, LentSpaceShort, NoSuchDay, DatesOutOfOrder}
+use Rattle.answer.specs.declared.refusal.Reason.TheVariants.{SheetLength, Misprint, RowOutOfOrder, OutOfRange, TooManyWalls, EndsExceedStorey, MarkOnAbsentPart, NoParts, LentSpaceShort, NoSuchDay, DatesOutOfOrder, NoSuchWall}
 use Rattle.answer.specs.declared.refusal.Refusal.{Refusal}
 use Rattle.answer.specs.Told.{Told, counted, refusal, told, accepts, number_of}
 
--- The reason of a number from 1 to 11, and each reason's number leads back to it.
+-- The reason of a number from 1 to 12, and each reason's number leads back to it.
 abbrev reason_of : ℕ → Reason
 reason_of number =
     get_or (SheetLength ∷ SheetLength ∷ Misprint ∷ RowOutOfOrder ∷ OutOfRange ∷ TooManyWalls ∷ EndsExceedStorey ∷ MarkOnAbsentPart ∷ NoParts ∷ LentSpaceShort
-    ∷ NoSuchDay ∷ DatesOutOfOrder ∷ []) number SheetLength
+    ∷ NoSuchDay ∷ DatesOutOfOrder ∷ NoSuchWall ∷ []) number SheetLength
 
 reason_numbered : (reason : Reason) → reason_of (number_of reason) ≡ reason
 reason_numbered SheetLength = refl
@@ -24,10 +24,26 @@ reason_numbered NoParts = refl
 reason_numbered LentSpaceShort = refl
 reason_numbered NoSuchDay = refl
 reason_numbered DatesOutOfOrder = refl
+reason_numbered NoSuchWall = refl
 
 -- Reasons of the same number are the same.
 pub number_same : (one other : Reason) → number_of one ≡ number_of other → one ≡ other
 number_same one other e = sym (reason_numbered one) ∙ ap reason_of e ∙ reason_numbered other
+
+-- Every reason has a number from 1 on, so that a refusal is told from none by its number.
+pub number_some : (reason : Reason) → 0 < number_of reason
+number_some SheetLength = lit< tt
+number_some Misprint = lit< tt
+number_some RowOutOfOrder = lit< tt
+number_some OutOfRange = lit< tt
+number_some TooManyWalls = lit< tt
+number_some EndsExceedStorey = lit< tt
+number_some MarkOnAbsentPart = lit< tt
+number_some NoParts = lit< tt
+number_some LentSpaceShort = lit< tt
+number_some NoSuchDay = lit< tt
+number_some DatesOutOfOrder = lit< tt
+number_some NoSuchWall = lit< tt
 
 -- A refusal tells no count, whatever its number, not even one numbered 0 a count of 0.
 pub never_count : (number row column count : ℕ) → refusal number row column ≡ counted count → ⊥

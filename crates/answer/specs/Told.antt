@@ -1,7 +1,7 @@
 -- What an answer tells. Document 01, "What a refused sheet is told".
 use Rattle.std.specs.Prelude.{ℕ, Bool, true, false, Result, Ok, Err, List, [], ◌∷◌}
 use Rattle.answer.specs.declared.refusal.Reason.{Reason}
-use Rattle.answer.specs.declared.refusal.Reason.TheVariants.{SheetLength, Misprint, RowOutOfOrder, OutOfRange, TooManyWalls, EndsExceedStorey, MarkOnAbsentPart, NoParts, LentSpaceShort, NoSuchDay, DatesOutOfOrder}
+use Rattle.answer.specs.declared.refusal.Reason.TheVariants.{SheetLength, Misprint, RowOutOfOrder, OutOfRange, TooManyWalls, EndsExceedStorey, MarkOnAbsentPart, NoParts, LentSpaceShort, NoSuchDay, DatesOutOfOrder, NoSuchWall}
 use Rattle.answer.specs.declared.refusal.Refusal.{Refusal}
 
 -- What is told (the word is document 01's own): whether the answer is a count; a refusal's number (0 where it is a count), its row and column; and
@@ -58,6 +58,10 @@ no_such_day = 10
 abbrev pub dates_out_of_order : ℕ
 dates_out_of_order = 11
 
+-- And request 7: "12 no such wall to delete"; also where a total "would then lie outside" its limits.
+abbrev pub no_such_wall : ℕ
+no_such_wall = 12
+
 -- The number of each case of the code's reasons.
 abbrev pub number_of : Reason → ℕ
 number_of SheetLength = sheet_length
@@ -71,6 +75,7 @@ number_of NoParts = no_parts
 number_of LentSpaceShort = lent_space_short
 number_of NoSuchDay = no_such_day
 number_of DatesOutOfOrder = dates_out_of_order
+number_of NoSuchWall = no_such_wall
 
 -- A refusal that has no place.
 abbrev pub without_place : Reason → Refusal

@@ -20,6 +20,8 @@ pub enum Reason {
     // And document 02's, request 3; dates are out of order where one is before the one to its left.
     NoSuchDay = 10,
     DatesOutOfOrder = 11,
+    // And request 7; also where a change would leave a total out of its limits.
+    NoSuchWall = 12,
 }
 
 impl From<Reason> for u32 {

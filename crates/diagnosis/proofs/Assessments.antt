@@ -1,5 +1,6 @@
 -- What is worked out for a house: what `score` answers is the quotient that is defined; and the house's record and report are those of its table. Assumes nothing.
-use Rattle.std.proofs.Common.{◌≡◌, refl, ◌∙◌, Bool, true, false, cond, List, ℕ, zero, suc, ◌+◌, ◌*◌, ◌<◌, ◌≤◌, arith, length, get_or, set, map, leb, ltb}
+use Rattle.std.proofs.Common.{◌≡◌, refl, ◌∙◌, Bool, true, false, cond, Option, Some, None, List, ℕ, zero, suc, ◌+◌, ◌*◌, ◌<◌, ◌≤◌, arith, length, get_or, set, map, leb, ltb}
+use native.Mathlib.Nat.{min-le_right}
 use Rattle.answer.specs.Told.{counted, refusal, accepts, lent_space_short}
 use Rattle.answer.specs.Lists.{joined, over}
 use Rattle.survey.specs.Table.{storeys}
@@ -15,11 +16,11 @@ use Rattle.method.specs.declared.scores.Quotient.{Quotient}
 use Rattle.diagnosis.specs.declared.assessment.HouseAssessment.{HouseAssessment}
 use Rattle.method.specs.declared.deterioration.Fraction.{Fraction}
 use Rattle.diagnosis.specs.declared.held.HeldSums.{HeldSums}
-use Rattle.diagnosis.specs.House.{InHouse, layout, deterioration, strengths_with, quotient_with, house_verdict, grants_last_day, started_by_31_may_1981, assessment}
-use Rattle.diagnosis.specs.Answers.{six_numbers, record_of}
+use Rattle.diagnosis.specs.House.{InHouse, held, layout, deterioration, strengths_with, quotient_with, scores, least_score, grants_last_day, started_by_31_may_1981, assessment_with}
+use Rattle.diagnosis.specs.Answers.{six_numbers, number_at, record_with}
 use Rattle.diagnosis.specs.Report.{result_rows, report_rows, report_lines, report_bytes, reporting, after_reporting}
 use Rattle.diagnosis.specs.Premises.{storey_at, direction_at, six, no_assessment, Printable}
-use Rattle.diagnosis.specs.Internal.{Assessable, held_sums, assessment_at, places_of, WorkedOut, record_by, bytes_by, reporting_by, after_reporting_by}
+use Rattle.diagnosis.specs.Internal.{Assessable, sums_with, held_by, assessment_at, places_of, WorkedOut, record_by, bytes_by, reporting_by, after_reporting_by}
 use Rattle.diagnosis.proofs.AcceptedTables.{storeys_few, required_within}
 use Rattle.diagnosis.proofs.Sums.{storey_held_most}
 use Rattle.diagnosis.proofs.SixPlaces.{six_at, six_set}
@@ -39,12 +40,19 @@ house_factor_bounded table = repair_bounded _ (repaired table) (deterioration_bo
 pub lower_some : (table : List ℕ) → 0 < (deterioration table).lower
 lower_some table = (house_factor_bounded table).lower_positive
 
--- A storey and direction of an accepted table, by what its own walls hold.
-pub assessable : (table : List ℕ) → (judging table).number ≡ 0 → (storey direction : ℕ) {sums : HeldSums} {factor : Fraction} → InHouse table storey direction
-    → sums ≡ held_sums table storey direction → factor ≡ deterioration table → Assessable table storey direction sums factor
-assessable table h storey direction here sums factor = record {
+-- What is held, given or by a storey's own walls, is no more than `method` computes with.
+pub held_by_most : (table : List ℕ) → (judging table).number ≡ 0 → (given : Option (List ℕ)) (storey direction : ℕ)
+    → held_by table given storey direction ≤ most_held
+held_by_most table h None storey direction = storey_held_most table h storey direction
+held_by_most table h (Some given) storey direction = min-le_right (number_at given storey direction) most_held
+
+-- A storey and direction of an accepted table, by what is held there.
+pub assessable : (table : List ℕ) → (judging table).number ≡ 0 → (held : ℕ → ℕ → ℕ) → ((storey direction : ℕ) → held storey direction ≤ most_held)
+    → (storey direction : ℕ) {sums : HeldSums} {factor : Fraction} → InHouse table storey direction
+    → sums ≡ sums_with table held storey direction → factor ≡ deterioration table → Assessable table storey direction sums factor
+assessable table h held small storey direction here sums factor = record {
   in_house = here;
-  all_most = rw sums (storey_held_most table h storey direction);
+  all_most = rw sums (small storey direction);
   a_is = rw sums refl;
   b_is = rw sums refl;
   factor_is = factor;
@@ -62,36 +70,40 @@ module _ (table : List ℕ) (h : (judging table).number ≡ 0) where
   few : (at : ℕ) → at < 2 * storeys table → at < 6
   few at inside = omega (arith, storeys_few table h)
 
-  place_is : (at : ℕ) → at < 2 * storeys table → get_or (places_of table (2 * storeys table)) at no_assessment ≡ assessment_at table at
-  place_is at inside = six_at no_assessment (assessment_at table) (2 * storeys table) at inside (few at inside)
+  module _ (held : ℕ → ℕ → ℕ) where
+    abbrev places : List Assessment
+    places = places_of table held (2 * storeys table)
 
-  -- What is worked out for a house can be printed.
-  pub printable : Printable (places_of table (2 * storeys table)) (2 * storeys table) (deterioration table)
-  printable = record {
-    few = omega (arith, storeys_few table h);
-    lower_some = lower_some table;
-    held_most = λ at inside. rw (place_is at inside) (storey_held_most table h (storey_at at) (direction_at at));
-    required_most = λ at inside. rw (place_is at inside) (required_within table h (omega arith) (omega arith));
-  }
+    place_is : (at : ℕ) → at < 2 * storeys table → get_or places at no_assessment ≡ assessment_at table held at
+    place_is at inside = six_at no_assessment (assessment_at table held) (2 * storeys table) at inside (few at inside)
 
-  -- Six numbers of one kind, by how many storeys there are.
-  each_is : (kind : Assessment → ℕ) → kind no_assessment ≡ 0
-      → map kind (places_of table (2 * storeys table)) ≡ six_numbers table (λ storey direction. kind (assessment table storey direction))
-  unfolding six six_numbers joined over
-  each_is kind none =
-      by_storeys (storeys table) (storeys_few table h).1 (λ e. simp (e, none)) (λ e. simp (e, none)) (λ e. simp (e, none)) (λ e. simp e)
+    -- What is worked out for a house can be printed.
+    pub printable : ((storey direction : ℕ) → held storey direction ≤ most_held) → Printable places (2 * storeys table) (deterioration table)
+    printable small = record {
+      few = omega (arith, storeys_few table h);
+      lower_some = lower_some table;
+      held_most = λ at inside. rw (place_is at inside) (small (storey_at at) (direction_at at));
+      required_most = λ at inside. rw (place_is at inside) (required_within table h (omega arith) (omega arith));
+    }
 
-  each_left_over : (kind : Quotient → ℕ) → kind no_assessment.quotient ≡ 0
-      → map kind (map (λ (one : Assessment). one.quotient) (places_of table (2 * storeys table)))
-      ≡ six_numbers table (λ storey direction. kind (assessment table storey direction).quotient)
-  unfolding six
-  each_left_over kind none = each_is (λ (one : Assessment). kind one.quotient) none
+    -- Six numbers of one kind, by how many storeys there are.
+    pub each_is : (kind : Assessment → ℕ) → kind no_assessment ≡ 0
+        → map kind places ≡ six_numbers table (λ storey direction. kind (assessment_with table (held storey direction) storey direction))
+    unfolding six six_numbers joined over
+    each_is kind none =
+        by_storeys (storeys table) (storeys_few table h).1 (λ e. simp (e, none)) (λ e. simp (e, none)) (λ e. simp (e, none)) (λ e. simp e)
 
-  module _ {found : HouseAssessment} (w : WorkedOut table found) where
+    each_left_over : (kind : Quotient → ℕ) → kind no_assessment.quotient ≡ 0
+        → map kind (map (λ (one : Assessment). one.quotient) places)
+        ≡ six_numbers table (λ storey direction. kind (assessment_with table (held storey direction) storey direction).quotient)
+    unfolding six
+    each_left_over kind none = each_is (λ (one : Assessment). kind one.quotient) none
+
     -- Its record,
-    pub record_is : record_by found (leb (start_of_work table) grants_last_day) ≡ record_of table
-    unfolding record_of house_verdict started_by_31_may_1981
-    record_is =
+    pub record_is : {found : HouseAssessment} → WorkedOut table held found
+        → record_by found (leb (start_of_work table) grants_last_day) ≡ record_with table held
+    unfolding record_with started_by_31_may_1981
+    record_is w =
         rw (
           w.places,
           w.count,
@@ -102,9 +114,14 @@ module _ (table : List ℕ) (h : (judging table).number ≡ 0) where
           each_left_over (λ (q : Quotient). q.divisor) refl,
         )
 
-    -- and its report.
+    -- what is held,
+    pub held_is : {found : HouseAssessment} → WorkedOut table held found → map (λ (one : Assessment). one.held) found.places ≡ six_numbers table held
+    held_is w = rw w.places (each_is (λ (one : Assessment). one.held) refl)
+
+  -- and its report, which goes by what its own walls hold.
+  module _ {found : HouseAssessment} (w : WorkedOut table (held table) found) where
     report_bytes_lem : bytes_by found ≡ report_bytes table
-    unfolding six report_bytes report_rows result_rows joined
+    unfolding six report_bytes report_rows result_rows joined least_score scores
     report_bytes_lem =
         rw (w.places, w.count, w.least, w.factor)
         (by_storeys (storeys table) (storeys_few table h).1 (λ e. simp e) (λ e. simp e) (λ e. simp e) (λ e. simp e))
@@ -124,15 +141,16 @@ module _ (table : List ℕ) (h : (judging table).number ≡ 0) where
         go false = refl
 
 -- Two places more, those of a storey.
-pub places_more : (table : List ℕ) (below : ℕ) {places : List Assessment} {x y : Assessment} → below < 3 → places ≡ places_of table (2 * below)
-    → x ≡ assessment table (below + 1) 1 → y ≡ assessment table (below + 1) 2
-    → set (set places (2 * below) x) (2 * below + 1) y ≡ places_of table (2 * (below + 1))
-places_more table below inside so_far one other =
+pub places_more : (table : List ℕ) (held : ℕ → ℕ → ℕ) (below : ℕ) {places : List Assessment} {x y : Assessment} → below < 3
+    → places ≡ places_of table held (2 * below)
+    → x ≡ assessment_with table (held (below + 1) 1) (below + 1) 1 → y ≡ assessment_with table (held (below + 1) 2) (below + 1) 2
+    → set (set places (2 * below) x) (2 * below + 1) y ≡ places_of table held (2 * (below + 1))
+places_more table held below inside so_far one other =
     let at : ℕ = 2 * below in
     let ground : storey_at at ≡ below + 1 = omega arith in
     let above : storey_at (at + 1) ≡ below + 1 = omega arith in
     let along : direction_at at ≡ 1 = omega arith in
     let across : direction_at (at + 1) ≡ 2 = omega arith in
     let all : at + 1 + 1 ≡ 2 * (below + 1) = omega arith in
-    let first = six_set no_assessment (assessment_at table) at (omega arith) so_far (one ∙ rw (ground, along)) in
-    rw (← all) (six_set no_assessment (assessment_at table) (at + 1) (omega arith) first (other ∙ rw (above, across)))
+    let first = six_set no_assessment (assessment_at table held) at (omega arith) so_far (one ∙ rw (ground, along)) in
+    rw (← all) (six_set no_assessment (assessment_at table held) (at + 1) (omega arith) first (other ∙ rw (above, across)))

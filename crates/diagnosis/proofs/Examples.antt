@@ -30,8 +30,7 @@ use Rattle.diagnosis.specs.House.{in_direction, solid_at_end, held, end_held, na
 use Rattle.diagnosis.specs.declared.held.HeldSums.{HeldSums}
 use Rattle.method.specs.declared.verdicts.Verdict.TheVariants.{LikelyToCollapse}
 use Rattle.diagnosis.specs.Internal.{held_sums}
-use Rattle.diagnosis.specs.Answers.{ToldRecord, told_refused, Scoring, told_scoring, six_numbers, record_of, scoring}
-use Rattle.diagnosis.specs.Comparison.{score_at}
+use Rattle.diagnosis.specs.Answers.{ToldRecord, told_refused, Scoring, told_scoring, six_numbers, record_with, record_of, scoring, score_at}
 use Rattle.diagnosis.specs.Report.{result_rows, report_rows, report_bytes, reporting, refusal_line}
 use Rattle.diagnosis.specs.Program.{most_numbers, table_of, diagnosing, after_diagnosing, most_report_bytes, output}
 use Rattle.diagnosis.specs.Worked.{p1_report, p1_record, sound_record, all_worse_record, like_p1, small_floor, with_parts, repaired_with_parts, with_middle_wall, on_the_ground, p10, under_ten_day, ten_day, storeys_and_ends, worked_narrow, expected_narrow, sound, heavy, zone100, soft_ground, over_ten, more_marks, all_worse, started_on, under_snow, snowy_sound, snowy_worse, repaired_sound, repaired_worse, weak_joints, figures, same_bands}
@@ -364,7 +363,7 @@ module _ (area end middle present marked repaired : ℕ) (accepted : judging (li
 
   on_the_ground_lem : on_the_ground like
       ≡ recorded (quotient_by like 1 1 held_in_x) ∷ recorded (quotient_by like 1 2 (held_in_y middle)) ∷ []
-  unfolding scoring record_of six_numbers joined over score_with
+  unfolding scoring record_of record_with six_numbers joined over score_with
   on_the_ground_lem = rw (accepted, scored_like_p1.0, scored_like_p1.1)
 
 -- P1 and its house with a number changed: with a small floor; without marks, at 99 and at 100; with 14 of 20 points, and with 16 of 24, which is under
@@ -441,7 +440,7 @@ all_worse_quotients =
     (quotient_by_sums _ 1 1 held.0, quotient_by_sums _ 1 2 held.1, quotient_by_sums _ 2 1 held.2, quotient_by_sums _ 2 2 held.3)
 
 p1_record_lem : record_of p1 ≡ p1_record
-unfolding record_of six_numbers joined over house_verdict least_score scores score_with least_of verdict started_by_31_may_1981 wall_rows first
+unfolding record_of record_with six_numbers joined over house_verdict least_score scores score_with least_of verdict started_by_31_may_1981 wall_rows first
 p1_record_lem = rw (p1_quotients.0, p1_quotients.1)
 
 -- The record of a house of two storeys, by its quotients.
@@ -456,7 +455,7 @@ module _ (house : List ℕ) (two-storeys : storeys house ≡ 2) {one two three f
         remainders = one.remainder ∷ two.remainder ∷ three.remainder ∷ four.remainder ∷ 0 ∷ 0 ∷ [];
         divisors = one.divisor ∷ two.divisor ∷ three.divisor ∷ four.divisor ∷ 0 ∷ 0 ∷ [];
       }
-  unfolding record_of six_numbers joined over house_verdict least_score scores score_with
+  unfolding record_of record_with six_numbers joined over house_verdict least_score scores score_with
   by_quotients found = rw (two-storeys, found.0, found.1, found.2, found.3)
 
 -- The records of P1 and of the best and the worst of them, and where a record has the score of a storey and direction.
@@ -491,7 +490,7 @@ started_judged = (refl, refl, refl)
 pub grants_last_day_lem :
     ((scoring (started_on 19810531)).result.started_by_31_may_1981 ≡ 1)
     × ((scoring (started_on 19810601)).result.started_by_31_may_1981 ≡ 0)
-unfolding scoring record_of started_by_31_may_1981 wall_rows first
+unfolding scoring record_of record_with started_by_31_may_1981 wall_rows first
 grants_last_day_lem = (rw started_judged.0, rw started_judged.1)
 
 pub refused_record : scoring (set p1 6 2) ≡ told_refused 4 1 7

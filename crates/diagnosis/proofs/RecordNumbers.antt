@@ -4,8 +4,7 @@ use Rattle.survey.specs.Judgement.{judging}
 use Rattle.method.specs.Score.{score}
 use Rattle.method.proofs.Theorems.{score_divided, remainder_smaller}
 use Rattle.diagnosis.specs.House.{InHouse, held, required, layout, deterioration, strengths_with, score_with, quotient_with, full_score, full_quotient}
-use Rattle.diagnosis.specs.Answers.{Scoring, told_scoring, record_of, scoring}
-use Rattle.diagnosis.specs.Comparison.{score_at}
+use Rattle.diagnosis.specs.Answers.{Scoring, told_scoring, record_with, record_of, scoring, score_at}
 use Rattle.diagnosis.proofs.AcceptedTables.{required_some}
 use Rattle.diagnosis.proofs.Assessments.{lower_some}
 use Rattle.diagnosis.proofs.ScoreLists.{number_in_six, record_told}
@@ -35,7 +34,7 @@ module _ (table : List ℕ) (h : (judging table).number ≡ 0) (storey direction
       → let place : List ℕ → ℕ = λ numbers. get_or numbers (score_at storey direction) 0 in
       Divided table storey direction (place (told_scoring a).result.scores) (place (told_scoring a).result.hundredths) (place (told_scoring a).result.remainders)
       (place (told_scoring a).result.divisors)
-  unfolding record_of
+  unfolding record_of record_with
   record_divided a e =
       rw (
         record_told table a h e,

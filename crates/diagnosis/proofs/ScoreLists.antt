@@ -9,9 +9,8 @@ use Rattle.answer.proofs.Lists.{joined_length, joined_part, part_at}
 use Rattle.survey.specs.Table.{storeys}
 use Rattle.survey.specs.Judgement.{judging}
 use Rattle.survey.proofs.RefusalNumbers.{judging_by_number, judging_accepts}
-use Rattle.diagnosis.specs.House.{InHouse, score_with, full_score, full_quotient, storey_by_storey, scores, least_of, least_score}
-use Rattle.diagnosis.specs.Answers.{no_numbers, six_numbers, ToldScoring, told_scored, told_refused, Scoring, told_scoring, record_of, scoring}
-use Rattle.diagnosis.specs.Comparison.{score_at}
+use Rattle.diagnosis.specs.House.{InHouse, score_with, full_score, full_quotient, storey_by_storey, scores, least_of, least_score, house_verdict}
+use Rattle.diagnosis.specs.Answers.{no_numbers, six_numbers, ToldScoring, told_scored, told_refused, Scoring, told_scoring, record_with, record_of, scoring, score_at}
 use Rattle.diagnosis.proofs.AcceptedTables.{storeys_few}
 
 -- The least of some scores, and of a storey's two more.
@@ -21,16 +20,18 @@ least_more [] x y = omega arith
 least_more (one ∷ others) x y = omega (arith, least_more others x y)
 
 -- The scores of the first storeys, so many, and those of a storey more.
-abbrev pub scores_below : List ℕ → ℕ → List ℕ
-scores_below table n = joined n (λ below. full_score table (below + 1) 1 ∷ full_score table (below + 1) 2 ∷ [])
+abbrev pub scores_below : List ℕ → (ℕ → ℕ → ℕ) → ℕ → List ℕ
+scores_below table held n =
+    joined n (λ below. score_with table (held (below + 1) 1) (below + 1) 1 ∷ score_with table (held (below + 1) 2) (below + 1) 2 ∷ [])
 
 joined_next : (f : ℕ → List ℕ) (n : ℕ) → joined (n + 1) f ≡ joined n f ++ f n
 unfolding joined
 joined_next f n = rw add-one
 
-pub storey_more : (table : List ℕ) (below : ℕ) {least x y : ℕ} → least ≡ least_of (scores_below table below) → x ≡ full_score table (below + 1) 1
-    → y ≡ full_score table (below + 1) 2 → min (min least x) y ≡ least_of (scores_below table (below + 1))
-storey_more table below so_far one other = rw (so_far, one, other, joined_next) (least_more (scores_below table below) _ _)
+pub storey_more : (table : List ℕ) (held : ℕ → ℕ → ℕ) (below : ℕ) {least x y : ℕ} → least ≡ least_of (scores_below table held below)
+    → x ≡ score_with table (held (below + 1) 1) (below + 1) 1 → y ≡ score_with table (held (below + 1) 2) (below + 1) 2
+    → min (min least x) y ≡ least_of (scores_below table held (below + 1))
+storey_more table held below so_far one other = rw (so_far, one, other, joined_next) (least_more (scores_below table held below) _ _)
 
 -- A number for each storey and direction is two a storey, and so are the scores.
 numbers_length : (table : List ℕ) (number : ℕ → ℕ → ℕ) → length (storey_by_storey table number) ≡ 2 * storeys table
@@ -70,8 +71,12 @@ module _ (table : List ℕ) (storey direction : ℕ) (s : InHouse table storey d
   score_listed = number_listed (full_score table)
 
   pub record_score : get_or (record_of table).scores (score_at storey direction) 0 ≡ full_score table storey direction
-  unfolding record_of
+  unfolding record_of record_with
   record_score = number_in_six (full_score table)
+
+pub record_verdict : (table : List ℕ) → (record_of table).verdict ≡ house_verdict table
+unfolding record_of record_with house_verdict least_score scores
+record_verdict table = refl
 
 -- The record that scoring answers, where the table is accepted.
 pub record_told : (table : List ℕ) (a : Scoring) → (judging table).number ≡ 0 → told_scoring a ≡ scoring table → (told_scoring a).result ≡ record_of table

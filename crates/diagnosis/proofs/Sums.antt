@@ -15,11 +15,11 @@ use Rattle.method.specs.Held.{wall_share, held_strength, most_held}
 use Rattle.method.proofs.Shares.{most_share, share_most, held_none, held_more, held_most}
 use Rattle.diagnosis.specs.declared.held.HeldSums.{HeldSums}
 use Rattle.diagnosis.specs.Rows.{house_of, end_a, end_b, wall_of}
-use Rattle.diagnosis.specs.House.{share, in_direction, solid_at_end, held, end_held}
+use Rattle.diagnosis.specs.House.{share, row_share, in_direction, solid_at_end, held, end_held}
 use Rattle.diagnosis.specs.Internal.{sums_over, Addable, with_wall, held_sums, no_sums}
 
 module _ (walls : List ℕ) (row : ℕ) where
-  wall_cell : (column : ℕ) → column < 8 → cell (part 8 row walls) 0 column ≡ cell walls row column
+  pub wall_cell : (column : ℕ) → column < 8 → cell (part 8 row walls) 0 column ≡ cell walls row column
   wall_cell column inside = rw zero-add (part_at 8 row walls column inside)
 
   wall_direction_lem : (direction : ℕ) → in_direction (part 8 row walls) direction 0 ≡ in_direction walls direction row
@@ -32,6 +32,10 @@ module _ (walls : List ℕ) (row : ℕ) where
 
   wall_same : wall_of (part 8 row walls) 0 ≡ wall_of walls row
   wall_same = rw (wall_cell 4 (lit< tt), wall_cell 5 (lit< tt), wall_cell 6 (lit< tt), wall_cell 7 (lit< tt))
+
+  -- What it counts in the storey that it names.
+  pub share_same : (house : House) → row_share house (part 8 row walls) 0 ≡ row_share house walls row
+  share_same house = rw (wall_cell 1 (lit< tt), wall_same)
 
 -- The walls are no more than a house may have, and none is longer than a wall may be.
 pub record WallsFit (walls : List ℕ) : Type 0 where

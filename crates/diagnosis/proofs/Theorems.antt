@@ -12,10 +12,10 @@ use Rattle.survey.specs.Judgement.{judging, within}
 use Rattle.method.specs.Worked.{worked, expected}
 use Rattle.diagnosis.specs.Rows.{storey_of, weight, zone, ground_class, marked, repaired, survey_day}
 use Rattle.diagnosis.specs.House.{InHouse, held, narrow, required, layout, higher_band, deterioration, score_before, full_score, least_score, house_verdict}
-use Rattle.diagnosis.specs.Answers.{Scoring, told_scoring, record_of, scoring}
+use Rattle.diagnosis.specs.Answers.{Scoring, told_scoring, record_of, scoring, score_at}
 use Rattle.diagnosis.specs.Report.{report_rows, report_lines, report_bytes, reporting}
 use Rattle.diagnosis.specs.Program.{table_of, diagnosing, after_diagnosing, most_report_bytes, output}
-use Rattle.diagnosis.specs.Comparison.{may_differ, NoLower, SameOrWorse, BandKept, score_at, NoBetter, Applies}
+use Rattle.diagnosis.specs.Comparison.{may_differ, NoLower, SameOrWorse, BandKept, NoBetter, Applies}
 use Rattle.diagnosis.specs.Worked.{p1_report, p1_record, sound_record, all_worse_record, small_floor, with_parts, repaired_with_parts, with_middle_wall, on_the_ground, p10, storeys_and_ends, by_sides, worked_narrow, expected_narrow, sound, heavy, zone100, soft_ground, over_ten, more_marks, all_worse, started_on, under_snow, snowy_sound, snowy_worse, as_repaired, repaired_sound, repaired_worse, weak_joints, figures, same_bands}
 use Rattle.diagnosis.proofs.NarrowStoreys as narrow_storeys
 use Rattle.diagnosis.proofs.ScoreLists as score_lists

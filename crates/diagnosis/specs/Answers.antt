@@ -1,16 +1,18 @@
 -- What scoring answers. Document 01: "scoring has its record in place of the count, all 0 when refused"; "The library answers with a record of
 -- up to six scores with the verdict." Document 02, request 3: it "also says whether work started by 31 May 1981", and request 4: it "gives beside
 -- each score, the whole hundredths, the remainder and the divisor".
-use Rattle.std.specs.Prelude.{Bool, true, false, cond, List, [], ◌∷◌, ℕ, ◌*◌, map, Result, Ok, Err}
+use Rattle.std.specs.Prelude.{Bool, true, false, cond, List, [], ◌∷◌, ℕ, ◌+◌, ◌-◌, ◌*◌, get_or, map, min, Result, Ok, Err}
 use Rattle.answer.specs.declared.refusal.Refusal.{Refusal}
-use Rattle.answer.specs.Told.{number_of, accepts}
+use Rattle.answer.specs.Told.{Told, number_of, accepts}
 use Rattle.answer.specs.Lists.{over}
 use Rattle.survey.specs.Table.{storeys}
 use Rattle.survey.specs.Judgement.{judging}
 use Rattle.method.specs.declared.scores.Quotient.{Quotient}
+use Rattle.method.specs.Held.{most_held}
+use Rattle.method.specs.Score.{verdict}
 use Rattle.method.specs.Verdicts.{verdict_number}
 use Rattle.diagnosis.specs.declared.scores.Record.{Record}
-use Rattle.diagnosis.specs.House.{full_score, full_quotient, storey_by_storey, house_verdict, started_by_31_may_1981}
+use Rattle.diagnosis.specs.House.{held, quotient_with, score_with, storey_by_storey, scores_with, least_of, started_by_31_may_1981}
 
 -- The paper's values of a record: six scores, storey by storey and in each storey X before Y, their count, the verdict, 1 where work started by
 -- 31 May 1981, else 0, and beside the scores six whole hundredths, remainders and divisors.
@@ -50,6 +52,13 @@ no_numbers = 0 ∷ 0 ∷ 0 ∷ 0 ∷ 0 ∷ 0 ∷ []
 unfoldable pub six_numbers : List ℕ → (ℕ → ℕ → ℕ) → List ℕ
 six_numbers table number = over no_numbers (storey_by_storey table number)
 
+-- Where six places have that of a storey and direction; and that number.
+abbrev pub score_at : ℕ → ℕ → ℕ
+score_at storey direction = 2 * (storey - 1) + (direction - 1)
+
+abbrev pub number_at : List ℕ → ℕ → ℕ → ℕ
+number_at six storey direction = get_or six (score_at storey direction) 0
+
 -- "all 0 when refused".
 abbrev pub no_record : ToldRecord
 no_record = record {
@@ -62,18 +71,25 @@ no_record = record {
   divisors = no_numbers;
 }
 
+-- Held strengths that a caller gives as six numbers, as `method` counts them: any above 60,000 kN counts as that.
+abbrev pub counted_as : List ℕ → ℕ → ℕ → ℕ
+counted_as given storey direction = min (number_at given storey direction) most_held
+
 -- The record of a house: its scores, their count, the verdict, whether work started by 31 May 1981, and beside each score its hundredths, remainder
--- and divisor.
-unfoldable pub record_of : List ℕ → ToldRecord
-record_of table = record {
-  scores = six_numbers table (full_score table);
+-- and divisor; by held strengths that are given, one for each storey and direction, and by what its own walls hold.
+unfoldable pub record_with : List ℕ → (ℕ → ℕ → ℕ) → ToldRecord
+record_with table held = record {
+  scores = six_numbers table (λ storey direction. score_with table (held storey direction) storey direction);
   count = 2 * storeys table;
-  verdict = house_verdict table;
+  verdict = verdict (least_of (scores_with table held));
   started_by_31_may_1981 = started_by_31_may_1981 table;
-  hundredths = six_numbers table (λ storey direction. (full_quotient table storey direction).hundredths);
-  remainders = six_numbers table (λ storey direction. (full_quotient table storey direction).remainder);
-  divisors = six_numbers table (λ storey direction. (full_quotient table storey direction).divisor);
+  hundredths = six_numbers table (λ storey direction. (quotient_with table (held storey direction) storey direction).hundredths);
+  remainders = six_numbers table (λ storey direction. (quotient_with table (held storey direction) storey direction).remainder);
+  divisors = six_numbers table (λ storey direction. (quotient_with table (held storey direction) storey direction).divisor);
 }
+
+unfoldable pub record_of : List ℕ → ToldRecord
+record_of table = record_with table (held table)
 
 -- What is told where a table is scored, and where it is refused.
 abbrev pub told_scored : ToldRecord → ToldScoring
@@ -90,6 +106,10 @@ abbrev pub told_scoring : Scoring → ToldScoring
 told_scoring (Ok r) = told_scored (told_record r)
 told_scoring (Err r) = told_refused (number_of r.reason) r.row r.column
 
+-- The refusal that is told, or a record.
+abbrev pub recorded : Told → ToldRecord → ToldScoring
+recorded tells result = cond (accepts tells) (told_scored result) (told_refused tells.number tells.row tells.column)
+
 -- The answer of scoring a table: the refusal of judging it, or its record.
 unfoldable pub scoring : List ℕ → ToldScoring
-scoring table = let judged = judging table in cond (accepts judged) (told_scored (record_of table)) (told_refused judged.number judged.row judged.column)
+scoring table = recorded (judging table) (record_of table)

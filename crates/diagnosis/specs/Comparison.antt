@@ -3,12 +3,12 @@
 -- house row, none of which is lower in B, and the marked set, which in B has every mark of A." Document 02, request 3, has the survey day in the place
 -- of column 7: "A later survey day now counts as having passed more time when two houses are compared." Among the numbers that are equal are the snow
 -- (request 1) and whether a house is repaired (request 5: "A repaired house compares with another only if both are marked repaired").
-use Rattle.std.specs.Prelude.{◌≡◌, Bool, true, false, ◌&&◌, ◌||◌, List, ℕ, ◌+◌, ◌-◌, ◌*◌, ◌<◌, ◌≤◌, length, get_or, eqb}
+use Rattle.std.specs.Prelude.{◌≡◌, Bool, true, false, ◌&&◌, ◌||◌, List, ℕ, ◌<◌, ◌≤◌, length, get_or, eqb}
 use Rattle.survey.specs.Table.{cell, parts_row, dates_row}
 use Rattle.survey.specs.Judgement.{judging, within}
 use Rattle.diagnosis.specs.Rows.{weight_column, zone_column, ground_column, marked_column, survey_day_column, weight, zone, ground_class, marked, survey_day}
 use Rattle.diagnosis.specs.House.{InHouse, higher_band, score_before, full_score, house_verdict}
-use Rattle.diagnosis.specs.Answers.{Scoring, told_scoring, scoring}
+use Rattle.diagnosis.specs.Answers.{score_at, Scoring, told_scoring, scoring}
 
 -- The columns that may differ: 3, 4 and 5 of the house row (weight class, zone, ground), the marked set and the survey day.
 abbrev pub house_may_differ : ℕ → Bool
@@ -49,10 +49,6 @@ pub record SameOrWorse (A B : List ℕ) : Type 0 where
 -- "it stays in its band when the higher band is the same in both houses compared".
 abbrev pub BandKept : List ℕ → List ℕ → ℕ → ℕ → Type 0
 BandKept A B storey direction = higher_band B storey direction ≡ higher_band A storey direction
-
--- Where a record has the score of a storey and direction.
-abbrev pub score_at : ℕ → ℕ → ℕ
-score_at storey direction = 2 * (storey - 1) + (direction - 1)
 
 -- What demand 3 says of B against A: in every storey and direction B's score before the layout factor is at most A's; wherever the better end
 -- stays in its band, B's full score as the program answers it is at most A's, rounding included; where all keep it, B's verdict is no better.

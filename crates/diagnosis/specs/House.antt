@@ -2,7 +2,7 @@
 -- Storeys and directions count from 1, as in document 01.
 use Rattle.std.specs.Prelude.{Bool, cond, ◌&&◌, ◌||◌, List, [], ◌∷◌, ℕ, ◌+◌, ◌*◌, ◌/◌, ◌≤◌, max, min, length, eqb, leb}
 use Rattle.answer.specs.Lists.{joined}
-use Rattle.survey.specs.Table.{storeys}
+use Rattle.survey.specs.Table.{cell, storeys}
 use Rattle.survey.specs.Walls.{storey_walls}
 use Rattle.method.specs.declared.deterioration.Fraction.{Fraction}
 use Rattle.method.specs.declared.rows.House.{House}
@@ -30,6 +30,10 @@ pub record InHouse (table : List ℕ) (storey direction : ℕ) : Type 0 where
 -- What a wall of a storey counts, by its row among that storey's walls.
 abbrev pub share : House → ℕ → List ℕ → ℕ → ℕ
 share house storey walls row = wall_share house storey (wall_of walls row)
+
+-- And by its row in a table, in the storey that the row names.
+abbrev pub row_share : House → List ℕ → ℕ → ℕ
+row_share house table row = share house (cell table row 1) table row
 
 -- The walls in a direction; and those of them that are solid and stand at an end: "place (1 end a, 2 middle, 3 end b)", "type (1 solid, ..)".
 unfoldable pub in_direction : List ℕ → ℕ → ℕ → Bool
@@ -133,12 +137,16 @@ score_with table held storey direction = limited (quotient_with table held store
 abbrev pub full_score : List ℕ → ℕ → ℕ → ℕ
 full_score table storey direction = score_with table (held table storey direction) storey direction
 
--- A number for each storey and direction of a house: storey by storey from the ground up, in each "direction 1 (X) then 2 (Y)". Its scores.
+-- A number for each storey and direction of a house: storey by storey from the ground up, in each "direction 1 (X) then 2 (Y)". Its scores, by held
+-- strengths that are given, and by what its own walls hold.
 abbrev pub storey_by_storey : List ℕ → (ℕ → ℕ → ℕ) → List ℕ
 storey_by_storey table number = joined (storeys table) (λ below. number (below + 1) 1 ∷ number (below + 1) 2 ∷ [])
 
+abbrev pub scores_with : List ℕ → (ℕ → ℕ → ℕ) → List ℕ
+scores_with table held = storey_by_storey table (λ storey direction. score_with table (held storey direction) storey direction)
+
 unfoldable pub scores : List ℕ → List ℕ
-scores table = storey_by_storey table (full_score table)
+scores table = scores_with table (held table)
 
 -- The least of some scores, of which none is above 999.
 unfoldable pub least_of : List ℕ → ℕ

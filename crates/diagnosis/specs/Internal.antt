@@ -1,5 +1,5 @@
 -- What only the code needs. No promise to callers and no theorem is stated with these.
-use Rattle.std.specs.Prelude.{◌≡◌, Bool, cond, List, ◌++◌, ℕ, ◌+◌, ◌*◌, ◌≤◌, length, get_or, map, ltb}
+use Rattle.std.specs.Prelude.{◌≡◌, Bool, cond, Option, Some, None, List, ◌++◌, ℕ, ◌+◌, ◌*◌, ◌≤◌, length, get_or, map, ltb}
 use Rattle.answer.specs.Told.{Told, counted, refusal, lent_space_short}
 use Rattle.answer.specs.Lists.{joined, over}
 use Rattle.sheet.specs.Sheet.{lines_of}
@@ -20,8 +20,8 @@ use Rattle.diagnosis.specs.declared.held.HeldSums.{HeldSums}
 use Rattle.diagnosis.specs.declared.assessment.Assessment.{Assessment}
 use Rattle.diagnosis.specs.declared.assessment.HouseAssessment.{HouseAssessment}
 use Rattle.diagnosis.specs.Rows.{end_a, end_b}
-use Rattle.diagnosis.specs.House.{InHouse, share, in_direction, solid_at_end, held, end_held, narrow, deterioration, least_score, assessment}
-use Rattle.diagnosis.specs.Answers.{ToldRecord}
+use Rattle.diagnosis.specs.House.{InHouse, share, in_direction, solid_at_end, held, end_held, narrow, deterioration, scores_with, least_of, assessment_with}
+use Rattle.diagnosis.specs.Answers.{ToldRecord, counted_as}
 use Rattle.diagnosis.specs.Report.{result_row, verdict_row}
 use Rattle.diagnosis.specs.Premises.{six, storey_at, direction_at, no_assessment}
 
@@ -67,13 +67,21 @@ with_wall wall direction counted sums = record {
 abbrev pub no_sums : HeldSums
 no_sums = record { all = 0; a = 0; b = 0 }
 
--- What a storey holds in a direction, whole and at each end.
-abbrev pub held_sums : List ℕ → ℕ → ℕ → HeldSums
-held_sums table storey direction = record {
-  all = held table storey direction;
+-- What a storey holds in a direction, whole and at each end; the whole is given, or what the storey's own walls hold.
+abbrev pub sums_with : List ℕ → (ℕ → ℕ → ℕ) → ℕ → ℕ → HeldSums
+sums_with table held storey direction = record {
+  all = held storey direction;
   a = end_held table storey direction end_a;
   b = end_held table storey direction end_b;
 }
+
+abbrev pub held_sums : List ℕ → ℕ → ℕ → HeldSums
+held_sums table = sums_with table (held table)
+
+-- What is held in each storey and direction: what six given numbers say, or else what the storeys' own walls hold.
+abbrev pub held_by : List ℕ → Option (List ℕ) → ℕ → ℕ → ℕ
+held_by table None = held table
+held_by table (Some given) = counted_as given
 
 -- A house worked out
 
@@ -86,17 +94,17 @@ pub record Assessable (table : List ℕ) (storey direction : ℕ) (sums : HeldSu
   pub b_is : sums.b ≡ end_held table storey direction end_b
   pub factor_is : factor ≡ deterioration table
 
--- Place by place, and all of it.
-abbrev pub assessment_at : List ℕ → ℕ → Assessment
-assessment_at table at = assessment table (storey_at at) (direction_at at)
+-- Place by place, and all of it, by what is held in each storey and direction.
+abbrev pub assessment_at : List ℕ → (ℕ → ℕ → ℕ) → ℕ → Assessment
+assessment_at table held at = assessment_with table (held (storey_at at) (direction_at at)) (storey_at at) (direction_at at)
 
-abbrev pub places_of : List ℕ → ℕ → List Assessment
-places_of table count = six count no_assessment (assessment_at table)
+abbrev pub places_of : List ℕ → (ℕ → ℕ → ℕ) → ℕ → List Assessment
+places_of table held count = six count no_assessment (assessment_at table held)
 
-pub record WorkedOut (table : List ℕ) (found : HouseAssessment) : Type 0 where
-  pub places : found.places ≡ places_of table (2 * storeys table)
+pub record WorkedOut (table : List ℕ) (held : ℕ → ℕ → ℕ) (found : HouseAssessment) : Type 0 where
+  pub places : found.places ≡ places_of table held (2 * storeys table)
   pub count : found.count ≡ 2 * storeys table
-  pub least : found.least ≡ least_score table
+  pub least : found.least ≡ least_of (scores_with table held)
   pub factor : found.factor ≡ deterioration table
 
 -- Its record, by whether work started by 31 May 1981, which is given.

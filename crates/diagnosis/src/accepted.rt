@@ -2,7 +2,7 @@
 // struct of a row is filled here and nowhere else.
 ghost use Rattle.std.specs.Prelude.{◌≡◌, Err, IfOk, IfErr, eqb};
 ghost use Rattle.answer.specs.Told.{told};
-ghost use Rattle.survey.specs.Table.{rows_due, parts_row};
+ghost use Rattle.survey.specs.Table.{rows_due, first_wall, parts_row};
 ghost use Rattle.survey.specs.Judgement.{judging};
 ghost use Rattle.survey.specs.Walls.{storey_walls};
 ghost use Rattle.diagnosis.specs.Rows.{storey_of, storey_part, end_part, wall_of, items_of, repaired, dates_of};
@@ -82,7 +82,7 @@ impl<'a> AcceptedTable<'a> {
     ghost use Rattle.diagnosis.specs.Internal.{direction_number, end_number};
 
     // Judges any table: the table as an accepted one, or its refusal.
-    pub(crate) fn judged(table: &'a [u32]) -> Result<AcceptedTable<'a>, Refusal>
+    pub fn judged(table: &'a [u32]) -> Result<AcceptedTable<'a>, Refusal>
         ensures accepted { IfOk result (λ accepted. accepted.table.now ≡ table.now) }
         ensures refused { IfErr result (λ refusal. told (Err refusal) ≡ judging table.now) }
     {
@@ -139,8 +139,15 @@ impl<'a> AcceptedTable<'a> {
         storey_run(self.table, storey)
     }
 
+    // The row of the first wall, counted from 0: the walls stand from there to the parts row.
+    pub fn first_wall(&self) -> usize
+        ensures { result ≡ first_wall self.now.table.now }
+    {
+        3 * self.house.storeys as usize + 1
+    }
+
     // The parts row, counted from 0.
-    fn parts_row(&self) -> usize
+    pub fn parts_row(&self) -> usize
         ensures { result ≡ parts_row self.now.table.now }
     {
         self.rows - 2

@@ -3,10 +3,10 @@
 ghost use Rattle.diagnosis.specs.Premises.{Printable};
 
 use crate::accepted::{AcceptedTable, Direction, End};
-use crate::held::HeldSums;
+use crate::held::{BothDirections, HeldSums};
 use calendar::age_on;
 use method::{
-    Bands, Fraction, HousePart, Quotient, Strengths, after_repair, band, deterioration_factor,
+    Bands, Fraction, HousePart, MOST_HELD, Quotient, Strengths, after_repair, band, deterioration_factor,
     floor_type, is_narrow, layout_factor, limited, narrow_factor, required_strength, score,
 };
 
@@ -43,7 +43,7 @@ const HIGHEST_SCORE: u32 = 999;
 impl AcceptedTable<'_> {
     ghost use Rattle.std.specs.Prelude.{◌≡◌, ◌≤◌};
     ghost use Rattle.diagnosis.specs.House.{narrow_storey, narrow, deterioration, assessment_with};
-    ghost use Rattle.diagnosis.specs.Internal.{part_band, Assessable, WorkedOut, direction_number};
+    ghost use Rattle.diagnosis.specs.Internal.{part_band, Assessable, WorkedOut, sums_with, held_by, direction_number};
 
     // The deterioration factor, by the house's age on the survey day and by whether it was repaired.
     fn deterioration(&self) -> Fraction
@@ -114,9 +114,26 @@ impl AcceptedTable<'_> {
         }
     }
 
-    // The table's house.
-    pub(crate) fn assess(&self) -> HouseAssessment
-        ensures { WorkedOut self.now.table.now result }
+    // What a storey holds in both directions: in all what is given, or else what its own walls hold; and what
+    // its ends hold.
+    fn sums_by(&self, storey: u32, given: Option<[u64; 6]>) -> BothDirections
+        requires { (1 ≤ storey) × (storey ≤ 3) }
+        ensures x { result.x ≡ sums_with self.now.table.now (held_by self.now.table.now given) storey 1 }
+        ensures y { result.y ≡ sums_with self.now.table.now (held_by self.now.table.now given) storey 2 }
+    {
+        let mut sums = self.storey_sums(storey);
+        if let Some(held) = given {
+            let at = 2 * (storey as usize - 1);
+            sums.x.all = held[at].min(MOST_HELD);
+            sums.y.all = held[at + 1].min(MOST_HELD);
+        }
+        sums
+    }
+
+    // The table's house, by held strengths that are given, up to 60,000 kN each, or else by what its own walls
+    // hold.
+    pub(crate) fn assess(&self, given: Option<[u64; 6]>) -> HouseAssessment
+        ensures { WorkedOut self.now.table.now (held_by self.now.table.now given) result }
     {
         let storeys = self.house.storeys;
         let factor = self.deterioration();
@@ -125,7 +142,7 @@ impl AcceptedTable<'_> {
         // Storeys are counted from 0 here, as their places in the array are.
         for below in 0..storeys {
             let storey = below + 1;
-            let sums = self.storey_sums(storey);
+            let sums = self.sums_by(storey, given);
             let x = self.assess_direction(storey, Direction::X, sums.x, factor);
             let y = self.assess_direction(storey, Direction::Y, sums.y, factor);
             let at = 2 * below as usize;

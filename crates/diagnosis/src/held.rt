@@ -1,13 +1,14 @@
 // What a storey holds in a direction, whole and at each end.
 ghost use Rattle.std.specs.Prelude.{◌≡◌, cond};
-ghost use Rattle.diagnosis.specs.House.{in_direction, solid_at_end};
+ghost use Rattle.diagnosis.specs.Rows.{house_of};
+ghost use Rattle.diagnosis.specs.House.{row_share, in_direction, solid_at_end};
 ghost use Rattle.diagnosis.specs.Internal.{Addable, with_wall, held_sums, direction_number, end_number};
 
 use crate::accepted::{AcceptedTable, Direction, End, wall_of};
 use answer::ROW;
 use method::wall_share;
 use survey::WallType;
-use survey::columns::{DIRECTION, PLACE, WALL_TYPE};
+use survey::columns::{DIRECTION, PLACE, STOREY, WALL_TYPE};
 
 // What walls of a storey hold in a direction: all of them, and the solid ones at ends a and b.
 #[derive(Clone, Copy, Debug, PartialEq, Eq, Default)]
@@ -67,6 +68,13 @@ impl HeldSums {
 }
 
 impl AcceptedTable<'_> {
+    // What a wall counts in the storey that it names, by its eight numbers.
+    pub fn share(&self, wall: &[u32; ROW]) -> u64
+        ensures { result ≡ row_share (house_of self.now.table.now) wall.now 0 }
+    {
+        wall_share(self.house, wall[STOREY], wall_of(wall))
+    }
+
     // What a storey holds in both directions.
     pub(crate) fn storey_sums(&self, storey: u32) -> BothDirections
         ensures x { result.x ≡ held_sums self.now.table.now storey 1 }

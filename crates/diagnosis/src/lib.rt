@@ -16,6 +16,7 @@ mod program;
 mod reports;
 mod scores;
 
+pub use accepted::AcceptedTable;
 pub use program::{ProgramOutput, diagnose, output_of};
 pub use reports::{MOST_REPORT_BYTES, report};
 pub use scores::{Record, score};

@@ -96,5 +96,5 @@ pub fn report(table: &[u32], report: &mut [u8]) -> Answer
     ensures answer { told result ≡ reporting table.now (length report.old) }
     ensures report { report.new ≡ after_reporting table.now report.old }
 {
-    AcceptedTable::judged(table)?.assess().report(report)
+    AcceptedTable::judged(table)?.assess(None).report(report)
 }

@@ -1,9 +1,10 @@
 // A table scored: its record, or the refusal.
-ghost use Rattle.std.specs.Prelude.{◌≡◌, leb};
+ghost use Rattle.std.specs.Prelude.{◌≡◌, leb, map};
+ghost use Rattle.diagnosis.specs.declared.assessment.Assessment.{Assessment};
 ghost use Rattle.diagnosis.specs.Rows.{start_of_work};
-ghost use Rattle.diagnosis.specs.Answers.{told_record, told_scoring, scoring};
-ghost use Rattle.diagnosis.specs.House.{grants_last_day};
-ghost use Rattle.diagnosis.specs.Internal.{record_by};
+ghost use Rattle.diagnosis.specs.House.{held, grants_last_day};
+ghost use Rattle.diagnosis.specs.Answers.{told_record, six_numbers, counted_as, record_with, told_scoring, scoring};
+ghost use Rattle.diagnosis.specs.Internal.{held_by, record_by};
 
 use crate::accepted::AcceptedTable;
 use crate::assessment::HouseAssessment;
@@ -40,6 +41,13 @@ impl AcceptedTable<'_> {
 }
 
 impl HouseAssessment {
+    // What is held in each storey and direction.
+    fn held(&self) -> [u64; 6]
+        ensures { result ≡ map (λ (one : Assessment). one.held) self.now.places }
+    {
+        self.places.map(|place| place.held)
+    }
+
     // The record of what is worked out for a house, and of whether work started by 31 May 1981.
     fn record(&self, started_by_31_may_1981: bool) -> Record
         ensures { told_record result ≡ record_by self.now started_by_31_may_1981 }
@@ -54,12 +62,39 @@ impl HouseAssessment {
     }
 }
 
+// The record of a table's house. Each storey and direction goes by a held strength, which a caller may give.
+impl AcceptedTable<'_> {
+    // By held strengths that are given, or else by what its own walls hold.
+    #[tactic(auto, using(crate::proofs::Assessments::record_is))]
+    fn record(&self, given: Option<[u64; 6]>) -> Record
+        ensures { told_record result ≡ record_with self.now.table.now (held_by self.now.table.now given) }
+    {
+        self.assess(given).record(self.started_by_31_may_1981())
+    }
+
+    // By held strengths that are given, one for each score in the scores' order: "the scores of those totals"
+    // (document 02, request 7). Any above 60,000 kN counts as that, and those of storeys that the house lacks
+    // count for nothing.
+    pub fn record_with(&self, given: [u64; 6]) -> Record
+        ensures { told_record result ≡ record_with self.now.table.now (counted_as given) }
+    {
+        self.record(Some(given))
+    }
+
+    // What its own walls hold, in the scores' order.
+    #[tactic(auto, using(crate::proofs::Assessments::held_is))]
+    pub fn held(&self) -> [u64; 6]
+        ensures { result ≡ six_numbers self.now.table.now (held self.now.table.now) }
+    {
+        self.assess(None).held()
+    }
+}
+
 // Scores any table: its record, or the refusal. Document 01: "scoring has its record in place of the count".
-#[tactic(auto, using(survey::proofs::RefusalNumbers::judging_accepts, crate::proofs::Assessments::record_is), unfolding(crate::specs::Answers::scoring))]
+#[tactic(auto, using(survey::proofs::RefusalNumbers::judging_accepts), unfolding(crate::specs::Answers::record_of, crate::specs::Answers::scoring))]
 pub fn score(table: &[u32]) -> Result<Record, Refusal>
     ensures { told_scoring result ≡ scoring table.now }
 {
     let accepted = AcceptedTable::judged(table)?;
-    let started = accepted.started_by_31_may_1981();
-    Ok(accepted.assess().record(started))
+    Ok(accepted.record(None))
 }

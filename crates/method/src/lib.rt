@@ -27,5 +27,5 @@ pub use joints::joint_factor;
 pub use layout::{band, floor_type, layout_factor};
 pub use required::{is_narrow, narrow_factor, required_strength};
 pub use rows::{Bands, House, HousePart, Items, Storey, Strengths, Wall};
-pub use scores::{Quotient, limited, score, verdict};
+pub use scores::{MOST_HELD, Quotient, limited, score, verdict};
 pub use verdicts::Verdict;

@@ -11,7 +11,7 @@ use crate::verdicts::Verdict;
 
 // 60,000 kN in the unit of held strength and in that of required strength, which no storey exceeds. With
 // strengths up to these every product of a score fits a u64.
-const MOST_HELD: u64 = 60_000_000_000;
+pub const MOST_HELD: u64 = 60_000_000_000;
 
 const MOST_REQUIRED: u64 = 60_000_000_000_000;
 

@@ -1,9 +1,8 @@
 -- The laws of lines and sheets: a place's judgement, the numbers read and the lines printed one after the other. Assumes nothing.
-use Rattle.std.proofs.Common.{◌≡◌, refl, sym, ap, subst, ◌∙◌, not, Bool, T, true, false, cond, Ok, Err, Some, None, rules, List, [], ◌∷◌, ◌++◌, ℕ, zero, suc, ◌+◌, ◌-◌, ◌*◌, ◌/◌, ◌%◌, ◌<◌, ◌≤◌, one-mul, mul-suc, add-zero, mod-eq_of_lt, add-one, arith, eqb, ltb, length, get_or, set, take, drop, drop-drop, mul-zero, le_of_suc-le-suc, not-suc-le-zero, le_refl, length-append, ne_eqb, lt-ltb, le-ltb, ltb-true, ltb-false}
+use Rattle.std.proofs.Common.{◌≡◌, refl, sym, ap, subst, ◌∙◌, not, Bool, T, true, false, cond, Ok, Err, Some, None, rules, List, [], ◌∷◌, ◌++◌, ℕ, zero, suc, ◌+◌, ◌-◌, ◌*◌, ◌/◌, ◌%◌, ◌<◌, ◌≤◌, one-mul, mul-suc, add-zero, mod-eq_of_lt, add-one, arith, eqb, ltb, length, get_or, set, le_refl, length-append, ne_eqb, lt-ltb, le-ltb, ltb-true, ltb-false}
 use native.Mathlib.Nat.{div-eq_of_lt, mul-add-div, mul-add-mod_self_left}
 use native.Mathlib.Decide.{dec_lt}
 use borrow.Rule.Slice.PartMut.{put_mid}
-use Rattle.std.specs.Simd.{first_chunks}
 use Rattle.answer.specs.declared.refusal.Reason.TheVariants.{Misprint}
 use Rattle.answer.specs.declared.refusal.Refusal.{Refusal}
 use Rattle.answer.specs.Told.{Told, told, counted, misprint}
@@ -15,18 +14,6 @@ use Rattle.sheet.specs.Field.{field, is_number, value, number_in, printed}
 use Rattle.sheet.specs.Line.{line}
 use Rattle.sheet.specs.Sheet.{refusal_at, placed, field_at, misprinted, line_read, lines_read, numbers_of, lines_of, after_printing}
 use Rattle.sheet.proofs.Fields.{some_number, none_number}
-
--- A part among the parts that the code cuts a list into.
-part_of_chunks : (size n i : ℕ) (list : List ℕ) → i < n → get_or (first_chunks size n list) i [] ≡ part size i list
-unfolding part
-part_of_chunks size zero i list h = absurd (not-suc-le-zero h)
-part_of_chunks size (suc n) zero list h = rw mul-zero
-part_of_chunks size (suc n) (suc i) list h =
-    part_of_chunks size n i (drop size list) (le_of_suc-le-suc h)
-    ∙ ap (take size) (drop-drop (size * i) size list ∙ ap (λ (k : ℕ). drop k list) (omega (arith, mul-suc size i)))
-
-pub part_cut : (size n i : ℕ) (list : List ℕ) {parts : List (List ℕ)} → parts ≡ first_chunks size n list → i < n → get_or parts i [] ≡ part size i list
-part_cut size n i list cut h = rw cut (part_of_chunks size n i list h)
 
 -- A field of a line by itself, as a sheet of one line, and what the code makes of it.
 module _ (line : List ℕ) (long : length line ≡ 65) (column : ℕ) (some : column < 8) where

@@ -34,16 +34,22 @@ or_false : (a b : Bool) → (a || b) ≡ false → (a ≡ false) × (b ≡ false
 or_false true b e = absurd (subst T e tt)
 or_false false b e = (refl, e)
 
--- Every number of a row without refusal 3 or 4 lies in its column's range.
-pub columns_inside : (due : ℕ) (ranges : List Range) (table : List ℕ) (row : ℕ) → Clean (columns_fault due ranges table row) → Inside ranges table row
-unfolding wrong_column leftmost outside
-columns_inside due ranges table row h column inside =
+-- Every number of a row lies in its column's range where none is the leftmost outside,
+pub leftmost_inside : (ranges : List Range) (table : List ℕ) (row : ℕ) → 8 ≤ leftmost (lows ranges) (highs ranges) table row → Inside ranges table row
+unfolding leftmost outside
+leftmost_inside ranges table row past column inside =
     let low = lows ranges in
     let high = highs ranges in
-    let last = first (outside low high table row) 8 in
-    let past = ltb-false last 8 (test_clean (ltb last 8) _ (omega arith) (then_clean (test (ltb last due) (fault row_out_of_order 1)) _ h).1) in
     let both = or_false (ltb (cell table row column) (get_or low column 0)) _ (before_first (outside low high table row) 8 column (omega arith)) in
     (ltb-false (cell table row column) _ both.0, ltb-false _ (cell table row column) both.1)
+
+-- and so it is in a row without refusal 3 or 4.
+pub columns_inside : (due : ℕ) (ranges : List Range) (table : List ℕ) (row : ℕ) → Clean (columns_fault due ranges table row) → Inside ranges table row
+unfolding wrong_column
+columns_inside due ranges table row h =
+    let last = leftmost (lows ranges) (highs ranges) table row in
+    let past = ltb-false last 8 (test_clean (ltb last 8) _ (omega arith) (then_clean (test (ltb last due) (fault row_out_of_order 1)) _ h).1) in
+    leftmost_inside ranges table row past
 
 -- And the other way: a row whose numbers lie in their ranges has neither refusal 3 nor 4.
 pub inside_columns : (due : ℕ) (ranges : List Range) (table : List ℕ) (row : ℕ) → due ≤ 8 → Inside ranges table row

@@ -1,26 +1,11 @@
 -- The laws of faults: the first of two tests, and a test by what it asks. Assumes nothing.
-use Rattle.std.proofs.Common.{Result, Ok, Err, IfErr, lit<, le_refl, rules, ◌≡◌, refl, ◌+◌, Bool, true, false, List, ℕ, ◌<◌, ◌≤◌, get_or, lt-ltb, le-ltb}
-use Rattle.answer.specs.declared.refusal.Reason.{Reason}
-use Rattle.answer.specs.declared.refusal.Reason.TheVariants.{SheetLength, Misprint, RowOutOfOrder, OutOfRange, TooManyWalls, EndsExceedStorey, MarkOnAbsentPart, NoParts, LentSpaceShort, NoSuchDay, DatesOutOfOrder}
+use Rattle.std.proofs.Common.{Result, Ok, Err, IfErr, le_refl, rules, ◌≡◌, refl, ◌+◌, Bool, true, false, List, ℕ, ◌<◌, ◌≤◌, get_or, lt-ltb, le-ltb}
 use Rattle.answer.specs.Told.{number_of}
+use Rattle.answer.proofs.Refusals.{number_some}
 use Rattle.survey.specs.declared.row.RowFault.{RowFault}
 use Rattle.survey.specs.Table.{cell}
 use Rattle.survey.specs.Internal.{told_by_row}
 use Rattle.survey.specs.Judgement.{Fault, fault, fault_told, none, faulty, ◌then◌, test, outside}
-
--- Every reason has a number from 1 on, so that a fault is told from none by its number.
-pub number_some : (reason : Reason) → 0 < number_of reason
-number_some SheetLength = lit< tt
-number_some Misprint = lit< tt
-number_some RowOutOfOrder = lit< tt
-number_some OutOfRange = lit< tt
-number_some TooManyWalls = lit< tt
-number_some EndsExceedStorey = lit< tt
-number_some MarkOnAbsentPart = lit< tt
-number_some NoParts = lit< tt
-number_some LentSpaceShort = lit< tt
-number_some NoSuchDay = lit< tt
-number_some DatesOutOfOrder = lit< tt
 
 -- A fault that the earlier test found.
 pub found : {f : Fault} (earlier later : Fault) → f ≡ earlier → 0 < f.number → f ≡ earlier then later

@@ -5,7 +5,7 @@ use Rattle.std.proofs.lemmas.List.FromFn.{length-range_with_len}
 use Rattle.std.proofs.lemmas.List.Folds.{length-prefix_len}
 use Rattle.answer.specs.First.{first}
 use Rattle.answer.proofs.Places.{first_same}
-use Rattle.survey.specs.Internal.{place_below}
+use Rattle.survey.specs.Judgement.{place_below}
 
 -- How many numbers of a range have passed a test when the first fails it.
 pub prefix_first : (test : ℕ → Bool) (start n : ℕ) → prefix_len test (range_with_len start n) ≡ first (λ k. not (test (start + k))) n

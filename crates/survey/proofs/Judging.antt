@@ -13,7 +13,8 @@ use Rattle.survey.specs.declared.row.RowFault.{RowFault}
 use Rattle.survey.specs.Table.{rows_due}
 use Rattle.survey.specs.Judgement.{Fault, fault, fault_told, none, faulty, row_fault, judging}
 use Rattle.survey.specs.Internal.{JudgedTo, told_by_row}
-use Rattle.survey.proofs.Faults.{number_some, not_faulty, row_told, row_clear}
+use Rattle.answer.proofs.Refusals.{number_some}
+use Rattle.survey.proofs.Faults.{not_faulty, row_told, row_clear}
 
 -- Nothing lent, a row cut off, or too many rows.
 pub judging_length : (table : List ℕ) → rows_in 8 (length table) ≡ 0 → refusal sheet_length 0 0 ≡ judging table

@@ -67,7 +67,7 @@ module _ (table : List ℕ) (h : (judging table).number ≡ 0) where
   rows = length table / 8
 
   -- Only rows between the ends and the parts are walls.
-  wall_stands : (row : ℕ) → row < rows → cell table row 0 ≡ 4 → (first_wall table ≤ row) × (row < parts_row table)
+  pub wall_stands : (row : ℕ) → row < rows → cell table row 0 ≡ 4 → (first_wall table ≤ row) × (row < parts_row table)
   wall_stands row h =
       by_place_lem table (λ row. cell table row 0 ≡ 4 → (first_wall table ≤ row) × (row < parts_row table))
       (λ kind. absurd (omega (arith, kind, a.house_inside 0 (omega arith))))

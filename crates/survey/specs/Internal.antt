@@ -1,5 +1,5 @@
 -- What only the code needs. No promise to callers and no theorem is stated with these.
-use Rattle.std.specs.Prelude.{◌≡◌, false, cond, List, Option, Some, None, Result, Ok, Err, ℕ, ◌+◌, ◌<◌, ◌≤◌, length, ltb}
+use Rattle.std.specs.Prelude.{◌≡◌, false, List, Result, Ok, Err, ℕ, ◌+◌, ◌<◌, ◌≤◌, length}
 use Rattle.answer.specs.Length.{Whole}
 use Rattle.answer.specs.declared.refusal.Refusal.{Refusal}
 use Rattle.survey.specs.declared.row.RowFault.{RowFault}
@@ -10,10 +10,6 @@ pub record JudgedTo (table : List ℕ) (rows row : ℕ) : Type 0 where
   pub size : Whole 8 (length table) rows
   pub reached : row ≤ rows
   pub clean : (k : ℕ) → k < row → faulty (row_fault table k) ≡ false
-
--- A place of the first n, where there is one: `first` answers n where a test holds at none.
-abbrev pub place_below : ℕ → ℕ → Option ℕ
-place_below n place = cond (ltb place n) (Some place) None
 
 -- What a test of a row answers, with the row that a refusal names.
 abbrev pub told_by_row : ℕ → Result (Unit {0}) RowFault → Result (Unit {0}) Refusal

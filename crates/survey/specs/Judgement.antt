@@ -1,6 +1,6 @@
 -- Which refusal a table gets. Document 01, "What a refused sheet is told": scoring tests "1, then each row from the top for 3, 4, 5, 6,
 -- 7, 8 in that order (4 names the leftmost column; 3 and 5 name column 1)"; document 02, request 3, has 10 and 11 for the dates row.
-use Rattle.std.specs.Prelude.{ℕ, ◌+◌, ◌-◌, Bool, cond, not, ◌||◌, List, length, get_or, eqb, leb, ltb, Result, Ok, Err}
+use Rattle.std.specs.Prelude.{ℕ, ◌+◌, ◌-◌, Bool, cond, not, ◌||◌, List, length, get_or, eqb, leb, ltb, Option, Some, None, Result, Ok, Err}
 use Rattle.std.specs.Int.Bits.{bit_and}
 use Rattle.answer.specs.Told.{Told, number_of, counted, refusal, sheet_length, row_out_of_order, out_of_range, too_many_walls, ends_exceed_storey, mark_on_absent_part, no_parts, no_such_day, dates_out_of_order}
 use Rattle.answer.specs.First.{first}
@@ -8,7 +8,7 @@ use Rattle.answer.specs.Length.{most_walls, rows_in}
 use Rattle.calendar.specs.Days.{is_day}
 use Rattle.survey.specs.Table.{cell, storeys, ends_storey, first_wall, parts_row, dates_row, rows_due}
 use Rattle.survey.specs.declared.ranges.Range.{Range}
-use Rattle.survey.specs.Ranges.{lows, highs, house_columns, storey_columns, ends_columns, wall_columns, parts_columns, dates_columns}
+use Rattle.survey.specs.Ranges.{lows, highs, house_columns, storey_columns, ends_columns, wall_ranges, wall_columns, parts_columns, dates_columns}
 use Rattle.survey.specs.declared.row.RowFault.{RowFault}
 
 -- A row's fault: a refusal's number and column, from 1; number 0 where the row has none.
@@ -47,6 +47,10 @@ outside low high table row column =
 -- The leftmost column of a row, from 0, whose number lies outside its range; 8 where none does.
 unfoldable pub leftmost : List ℕ → List ℕ → List ℕ → ℕ → ℕ
 leftmost low high table row = first (outside low high table row) 8
+
+-- As the code has it: a place of the first n, where there is one.
+abbrev pub place_below : ℕ → ℕ → Option ℕ
+place_below n place = cond (ltb place n) (Some place) None
 
 -- Refusals 3 and 4, by that column. The first `due` columns say which row it is: its kind, and the storey and direction that are due.
 unfoldable pub wrong_column : ℕ → ℕ → Fault
@@ -131,3 +135,8 @@ judging table =
     (cond (ltb row rows) (refusal (row_fault table row).number (row + 1) (row_fault table row).column)
     (cond (ltb rows (rows_due table)) (refusal row_out_of_order (rows + 1) 1)
     (counted rows)))
+
+-- Document 02, request 7: of a wall's eight numbers that are to be a row of a house of so many storeys, the leftmost column, from 0, outside a wall
+-- row's ranges; 8 where none is.
+unfoldable pub new_wall_column : ℕ → List ℕ → ℕ
+new_wall_column storeys wall = let ranges = wall_ranges storeys (cell wall 0 7) in leftmost (lows ranges) (highs ranges) wall 0

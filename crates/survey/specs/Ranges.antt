@@ -68,21 +68,24 @@ abbrev pub is_opening : ℕ → Bool
 is_opening type = eqb type 2 || eqb type 3
 
 -- "For types 2 and 3 strength and joint are 0. Where the type is none of the three, columns 5 and 7 are judged as for type 1."
-abbrev pub solid : List ℕ → ℕ → Range → Range
-solid table row range = cond (is_opening (cell table row 7)) unused range
+abbrev pub solid : ℕ → Range → Range
+solid type range = cond (is_opening type) unused range
 
--- "Walls".
-abbrev pub wall_columns : List ℕ → ℕ → List Range
-wall_columns table row =
+-- "Walls", in a house of so many storeys, by the wall's own type.
+abbrev pub wall_ranges : ℕ → ℕ → List Range
+wall_ranges storeys type =
     exactly 4
-    ∷ 1 to storeys table  -- storey
+    ∷ 1 to storeys  -- storey
     ∷ 1 to 2  -- direction
     ∷ 1 to 3  -- place: 1 end a, 2 middle, 3 end b
-    ∷ solid table row (1 to 300)  -- strength in 0.1 kN/m
+    ∷ solid type (1 to 300)  -- strength in 0.1 kN/m
     ∷ 1 to 20000  -- length in mm
-    ∷ solid table row (1 to 4)  -- joint: 000's I to IV
+    ∷ solid type (1 to 4)  -- joint: 000's I to IV
     ∷ 1 to 3  -- type: 1 solid, 2 window opening, 3 full-height opening
     ∷ []
+
+abbrev pub wall_columns : List ℕ → ℕ → List Range
+wall_columns table row = wall_ranges (storeys table) (cell table row 7)
 
 -- "Parts, one row". "A set is 0 to 8,191".
 abbrev pub parts_columns : List Range

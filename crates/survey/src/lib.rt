@@ -10,6 +10,7 @@
 pub mod columns;
 mod judgement;
 mod kind;
+mod new_walls;
 mod places;
 mod ranges;
 mod row;
@@ -19,6 +20,7 @@ mod walls;
 
 pub use judgement::judge;
 pub use kind::{RowKind, WallType};
+pub use new_walls::new_wall_column;
 pub use places::{dates_row, parts_row};
 pub use table::cell;
 pub use walls::{storey_run, storey_walls};

@@ -1,7 +1,7 @@
 // The numbers that a column may hold, and the columns of each kind of row, as specs/Ranges.antt has them.
 ghost use Rattle.std.specs.Prelude.{◌≡◌, ◌<◌, ◌&&◌, leb};
 ghost use Rattle.survey.specs.Table.{storeys, ends_storey};
-ghost use Rattle.survey.specs.Ranges.{◌to◌, exactly, zone, is_opening, solid, house_columns, storey_columns, ends_columns, wall_columns, parts_columns, dates_columns};
+ghost use Rattle.survey.specs.Ranges.{◌to◌, exactly, zone, is_opening, solid, house_columns, storey_columns, ends_columns, wall_ranges, wall_columns, parts_columns, dates_columns};
 
 use crate::columns::{WALL_TYPE, ZONE};
 use crate::kind::{RowKind, WallType};
@@ -75,6 +75,33 @@ pub(crate) fn storey_columns(number: u32) -> [Range; 8]
         Range::new(0, 1),
         Range::UNUSED,
         Range::UNUSED,
+    ]
+}
+
+// A wall's strength or joint, which an opening does not have.
+fn solid(walltype: u32, range: Range) -> Range
+    ensures { result ≡ solid walltype range }
+{
+    if is_opening(walltype) {
+        Range::UNUSED
+    } else {
+        range
+    }
+}
+
+// A wall's row, in a house of so many storeys, by the wall's own type.
+pub(crate) fn wall_ranges(storeys: u32, walltype: u32) -> [Range; 8]
+    ensures { result ≡ wall_ranges storeys walltype }
+{
+    [
+        Range::exactly(RowKind::Wall as u32),
+        Range::new(1, storeys),
+        Range::new(1, 2),
+        Range::new(1, 3),
+        solid(walltype, Range::new(1, 300)),
+        Range::new(1, 20_000),
+        solid(walltype, Range::new(1, 4)),
+        Range::new(1, 3),
     ]
 }
 
@@ -156,29 +183,9 @@ impl Row<'_> {
         ]
     }
 
-    // A wall's strength or joint, which an opening does not have.
-    fn solid(&self, range: Range) -> Range
-        ensures { result ≡ solid self.now.table.numbers.now self.now.at range }
-    {
-        if is_opening(self.number(WALL_TYPE)) {
-            Range::UNUSED
-        } else {
-            range
-        }
-    }
-
     pub(crate) fn wall_columns(&self) -> [Range; 8]
         ensures { result ≡ wall_columns self.now.table.numbers.now self.now.at }
     {
-        [
-            Range::exactly(RowKind::Wall as u32),
-            Range::new(1, self.table.storeys),
-            Range::new(1, 2),
-            Range::new(1, 3),
-            self.solid(Range::new(1, 300)),
-            Range::new(1, 20_000),
-            self.solid(Range::new(1, 4)),
-            Range::new(1, 3),
-        ]
+        wall_ranges(self.table.storeys, self.number(WALL_TYPE))
     }
 }

@@ -4,8 +4,8 @@ ghost use Rattle.std.specs.Prelude.{◌≡◌, ◌<◌, ◌≤◌, ◌+◌, ◌*
 ghost use Rattle.answer.specs.Length.{Whole};
 ghost use Rattle.survey.specs.Table.{cell, first_ends, is_wall, first_wall};
 ghost use Rattle.survey.specs.Ranges.{lows, highs};
-ghost use Rattle.survey.specs.Judgement.{fault_told, outside, leftmost, columns_fault};
-ghost use Rattle.survey.specs.Internal.{place_below, told_by_row};
+ghost use Rattle.survey.specs.Judgement.{fault_told, outside, leftmost, place_below, columns_fault};
+ghost use Rattle.survey.specs.Internal.{told_by_row};
 
 use crate::columns::KIND;
 use crate::ranges::Range;

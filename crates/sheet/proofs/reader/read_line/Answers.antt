@@ -4,7 +4,8 @@ use Rattle.answer.specs.Lists.{joined, over}
 use Rattle.answer.proofs.Lists.{over_whole}
 use Rattle.sheet.specs.Field.{number_in}
 use Rattle.sheet.specs.Sheet.{numbers_of, misprinted}
-use Rattle.sheet.proofs.Sheets.{part_cut, field_wrong, field_right, field_number, line_refused, line_accepted, line_last, numbers_more, numbers_length}
+use Rattle.answer.proofs.Parts.{part_cut}
+use Rattle.sheet.proofs.Sheets.{field_wrong, field_right, field_number, line_refused, line_accepted, line_last, numbers_more, numbers_length}
 use Rattle.sheet.proofs.reader.read_line.Goals as goal
 
 pub loop-column-init : goal.loop-column-init

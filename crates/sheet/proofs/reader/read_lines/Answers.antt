@@ -4,7 +4,8 @@ use Rattle.answer.specs.Told.{told}
 use Rattle.answer.specs.Lists.{joined, part, over}
 use Rattle.answer.proofs.Lists.{joined_over}
 use Rattle.sheet.specs.Sheet.{numbers_of, line_read}
-use Rattle.sheet.proofs.Sheets.{part_cut, refused_line, accepted_line, lines_refused, lines_counted, first_in_line, line_right, numbers_by_lines, numbers_length}
+use Rattle.answer.proofs.Parts.{part_cut}
+use Rattle.sheet.proofs.Sheets.{refused_line, accepted_line, lines_refused, lines_counted, first_in_line, line_right, numbers_by_lines, numbers_length}
 use Rattle.sheet.proofs.reader.read_lines.Goals as goal
 
 pub loop-row-init : goal.loop-row-init

@@ -3,7 +3,8 @@ use Rattle.std.proofs.Common.{◌≡◌, refl, ap, ◌∙◌, ◌/◌, length, a
 use Rattle.answer.specs.Lists.{joined, over}
 use Rattle.sheet.specs.Line.{line}
 use Rattle.sheet.specs.Sheet.{lines_of}
-use Rattle.sheet.proofs.Sheets.{part_cut, lines_more, printing_short, printing_room}
+use Rattle.answer.proofs.Parts.{part_cut}
+use Rattle.sheet.proofs.Sheets.{lines_more, printing_short, printing_room}
 use Rattle.sheet.proofs.writer.print_rows.Goals as goal
 
 pub returns-then-sheet-rows : goal.returns-then-sheet-rows

@@ -1,7 +1,7 @@
 -- `AcceptedTable::storey_sums` meets its contract. Assumes nothing.
 use Rattle.std.proofs.Common.{◌≡◌, ◌∙◌, ap, ◌<◌, ◌/◌, length, [], get_or, arith, rules}
 use Rattle.answer.specs.Lists.{part}
-use Rattle.sheet.proofs.Sheets.{part_cut}
+use Rattle.answer.proofs.Parts.{part_cut}
 use Rattle.survey.specs.Walls.{storey_walls}
 use Rattle.diagnosis.specs.declared.held.BothDirections.{BothDirections}
 use Rattle.diagnosis.specs.House.{share}
