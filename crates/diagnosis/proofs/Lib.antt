@@ -6,6 +6,7 @@ pub mod Places
 pub mod SixPlaces
 pub mod Assessments
 pub mod ScoreLists
+pub mod GivenStrengths
 pub mod RecordNumbers
 pub mod ReportRows
 pub mod ReportNumbers

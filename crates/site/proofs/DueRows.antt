@@ -1,6 +1,7 @@
 -- The row that a new wall takes: in an accepted table it is that of the first wall of a storey above. Assumes nothing.
 use Rattle.std.proofs.Common.{◌≡◌, refl, sym, ap, ◌∙◌, Bool, true, false, cond, List, ℕ, zero, suc, ◌+◌, ◌-◌, ◌<◌, ◌≤◌, arith, leb, ltb, ltb-true, ltb-false}
 use Rattle.std.proofs.lemmas.Bool.{le-leb, lt-leb}
+use borrow.Author.Tests.{leb-true, leb-false}
 use native.Mathlib.Decide.{dec_lt}
 use Rattle.answer.specs.First.{first}
 use Rattle.answer.proofs.Places.{first_most, before_first, at_first}
@@ -77,3 +78,21 @@ pub row_due_most : (table : List ℕ) (storey : ℕ) → (first_wall table ≤ r
 unfolding row_due
 row_due_most table storey =
     (omega arith, omega (arith, (after_last_lem (λ k. leb (cell table (first_wall table + k) 1) storey) (wall_rows table)).most))
+
+-- The wall before it is of a storey that is not above, and the wall in it of one above.
+module _ (table : List ℕ) (storey : ℕ) where
+  abbrev low : ℕ → Bool
+  low k = leb (cell table (first_wall table + k) 1) storey
+
+  place : AfterLast low (wall_rows table) (after_last low (wall_rows table))
+  place = after_last_lem low (wall_rows table)
+
+  pub row_due_above : first_wall table < row_due table storey → cell table (row_due table storey - 1) 1 ≤ storey
+  unfolding row_due
+  row_due_above h =
+      let same : first_wall table + (after_last low (wall_rows table) - 1) ≡ first_wall table + after_last low (wall_rows table) - 1 = omega arith in
+      rw (← same) (leb-true _ _ (place.passes (omega arith)))
+
+  pub row_due_below : row_due table storey < parts_row table → storey < cell table (row_due table storey) 1
+  unfolding row_due
+  row_due_below h = leb-false _ _ (place.fails (after_last low (wall_rows table)) (omega arith) (omega arith))

@@ -1,6 +1,10 @@
+-- The laws about changes on site, and the theorems.
 pub mod MovedRows
 pub mod DueRows
 pub mod SixTotals
 pub mod Checking
 pub mod Additions
 pub mod Deletions
+pub mod PutRows
+pub mod PutLists
+pub mod States

@@ -1,18 +1,23 @@
-use Rattle.std.proofs.Common.{rules, ◌≡◌, ◌≤◌, ◌*◌, IfOk, IfErr, Err, true, false, length, ℕ, ◌+◌, ◌-◌, ◌<◌, ◌/◌, ◌%◌, Bool, nat_eq, nat_lt, List, [], ◌∷◌, ◌++◌, slice_index_or, slice_set, bit_and, bit_or, Fits, w8, w32, w64, Bor, MutBor}
-use Rattle.answer.specs.Told.{told, accepts}
-use Rattle.survey.specs.Table.{storeys, rows_due}
-use Rattle.diagnosis.specs.Answers.{told_record, number_at, record_with}
-use Rattle.diagnosis.specs.Premises.{HouseOf}
+-- `scored` meets its contract. Assumes nothing.
+use Rattle.std.proofs.Common.{◌≡◌, ◌∙◌, refl, ℕ, ◌*◌, ◌≤◌, length, arith}
+use Rattle.survey.specs.Table.{storeys}
+use Rattle.survey.proofs.Acceptance.{accepted}
+use Rattle.method.specs.Held.{most_held}
+use Rattle.diagnosis.specs.House.{InHouse}
+use Rattle.diagnosis.specs.Answers.{number_at}
+use Rattle.diagnosis.proofs.GivenStrengths.{record_counted}
 use Rattle.site.specs.Rows.{in_use}
-use Rattle.site.specs.Totals.{some_above}
-use Rattle.site.specs.Changes.{on, rows_of, checking, started, add_told, with_wall, delete_told, without_wall}
-use Rattle.site.specs.Internal.{Made}
+use Rattle.site.proofs.SixTotals.{none_above}
+use Rattle.site.proofs.States.{Ready}
 use Rattle.site.proofs.changes.scored.Goals as goal
 
--- src/changes.rt:43:19
 pub overflow_cast-result : goal.overflow_cast-result
-overflow_cast-result c = ?
+overflow_cast-result c = omega (arith, (accepted _ c.requires.house.stands.accepted).sizes, c.requires.rows)
 
--- src/changes.rt:28:1
 pub returns : goal.returns
-returns c = ?
+returns c =
+    let table = in_use c.args.table.now c.args.rows in
+    let few : storeys table ≤ 3 = c.requires.house.stands.few in
+    let small : (storey direction : ℕ) → InHouse table storey direction → number_at c.args.held storey direction ≤ most_held =
+        λ storey direction here. none_above (storeys table) few c.args.held (omega arith) c.requires.within _ (omega (arith, here)) in
+    record { totals = refl; answer_is = c.record_with.ensures ∙ record_counted table c.args.held small }
