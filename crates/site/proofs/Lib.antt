@@ -8,3 +8,5 @@ pub mod Deletions
 pub mod PutRows
 pub mod PutLists
 pub mod States
+pub mod OwnSums
+pub mod Changing

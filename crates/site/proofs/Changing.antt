@@ -1,0 +1,186 @@
+-- What the code makes of a state: the refusal that is told, or the state with the wall or without it. Assumes nothing.
+use Rattle.std.proofs.Common.{◌≡◌, refl, sym, ap, subst, ◌∙◌, Bool, true, false, cond, Result, Ok, Err, List, [], ℕ, ◌+◌, ◌-◌, ◌*◌, ◌≤◌, ◌<◌, arith, length, ◌++◌}
+use Rattle.answer.specs.declared.refusal.Refusal.{Refusal}
+use Rattle.answer.specs.Told.{Told, told, accepts}
+use Rattle.answer.specs.Lists.{over}
+use Rattle.survey.specs.Table.{cell, storeys, rows_due}
+use Rattle.survey.specs.Judgement.{judging}
+use Rattle.survey.specs.Acceptance.{Accepted}
+use Rattle.survey.proofs.Acceptance.{accepted}
+use Rattle.method.specs.declared.rows.House.{House}
+use Rattle.diagnosis.specs.declared.accepted.AcceptedTable.{AcceptedTable}
+use Rattle.diagnosis.specs.Rows.{house_of}
+use Rattle.diagnosis.specs.Premises.{HouseOf}
+use Rattle.diagnosis.proofs.AcceptedTables.{stands}
+use Rattle.site.specs.declared.plans.Plan.{Plan}
+use Rattle.site.specs.declared.changes.Changed.{Changed}
+use Rattle.site.specs.Internal.{Made}
+use Rattle.site.specs.Rows.{in_use, with_row, without_row}
+use Rattle.site.specs.Totals.{total_added, total_taken, some_above}
+use Rattle.diagnosis.specs.House.{held}
+use Rattle.diagnosis.specs.Answers.{six_numbers}
+use Rattle.site.proofs.OwnSums.{sums_within}
+use Rattle.site.specs.Changes.{State, on, rows_of, checking, started, row_taken, addition, add_told, with_wall, deletion, delete_told, without_wall, empty_row}
+use Rattle.site.proofs.Checking.{checked}
+use Rattle.site.proofs.PutRows.{Put, Stands}
+use Rattle.site.proofs.Additions as additions
+use Rattle.site.proofs.Deletions as deletions
+use Rattle.site.proofs.States.{Ready, add_fits, add_put, add_stands, add_rows, add_table_long, add_judged, Found, delete_fits, delete_put, delete_stands, delete_rows, delete_table_long, delete_judged, in_use_long}
+
+-- A refusal of the rows in use is told first, whatever comes next.
+told_first : (tells next : Told) (r : Refusal) → told (Err r) ≡ tells → told (Err r) ≡ cond (accepts tells) next tells
+told_first tells next r e = e ∙ ap (λ (b : Bool). cond b next tells) (ap accepts e)
+
+next_told : (tells next : Told) → accepts tells ≡ true → next ≡ cond (accepts tells) next tells
+next_told tells next e = rw e refl
+
+-- One house row, and the same house, with a wall more or less.
+pub same_house : {A B : List ℕ} {at : ℕ} → Put A B at → 0 < at → house_of B ≡ house_of A
+same_house p past =
+    let same = p.before 0 past in
+    rw (same 1 (omega arith), same 2 (omega arith), same 3 (omega arith), same 4 (omega arith), same 5 (omega arith), same 7 (omega arith))
+
+-- An accepted table has this house, and so many rows.
+house_is : (table : List ℕ) → (judging table).number ≡ 0 → {house : House} → house ≡ house_of table → HouseOf table house
+house_is table h is = record { stands = stands table h; row = is; storeys_same = ap (λ (h : House). h.storeys) is }
+
+rows_are_due : (table : List ℕ) → (judging table).number ≡ 0 → (rows : ℕ) → length table ≡ 8 * rows → rows ≡ rows_due table
+rows_are_due table h rows long = omega (arith, (accepted table h).sizes)
+
+-- Rows that are accepted are few.
+pub count_small : (rows : AcceptedTable) → rows.rows ≤ 312
+count_small rows = omega (arith, rows.rows_are, (accepted rows.table.now rows.of_house.stands.accepted).sizes)
+
+-- What the code has stored is the state that a change makes.
+module _ (table held : List ℕ) (rows : ℕ) (after : State) (is : on table (record { held = held; rows = rows }) ≡ after) where
+  pub stored_house : (house : House) → HouseOf (rows_of after) house → HouseOf (in_use table rows) house
+  stored_house house known = subst (λ (l : List ℕ). HouseOf l house) (sym (ap rows_of is)) known
+
+  pub stored_rows : (house : House) → HouseOf (rows_of after) house → 8 * rows ≤ length table → rows ≡ rows_due (in_use table rows)
+  stored_rows house known fits =
+      rows_are_due (in_use table rows) (stored_house house known).stands.accepted rows (in_use_long (on table (record { held = held; rows = rows })) fits)
+
+  pub stored_within : some_above (storeys (rows_of after)) held ≡ false → some_above (storeys (in_use table rows)) held ≡ false
+  stored_within within = ap (λ (s : State). some_above (storeys (rows_of s)) held) is ∙ within
+
+  pub stored_made : (changed : Changed) → Made changed (on table (record { held = held; rows = rows })) → (table ≡ after.table) × Made changed after
+  stored_made changed made = (ap (λ (s : State). s.table) is, subst (λ (s : State). Made changed s) is made)
+
+module _ (s : State) where
+  -- A refusal of the rows in use, and of the tests after them.
+  pub add_refused : (wall : List ℕ) (r : Refusal) → told (Err r) ≡ checking s → told (Err r) ≡ add_told s wall
+  unfolding add_told
+  add_refused wall r e = told_first (checking s) (addition (rows_of s) s.totals.held (length s.table) wall) r e
+
+  pub delete_refused : (row : ℕ) (r : Refusal) → told (Err r) ≡ checking s → told (Err r) ≡ delete_told s row
+  unfolding delete_told
+  delete_refused row r e = told_first (checking s) (deletion (rows_of s) s.totals.held row) r e
+
+  pub add_next : (wall : List ℕ) → accepts (checking s) ≡ true → addition (rows_of s) s.totals.held (length s.table) wall ≡ add_told s wall
+  unfolding add_told
+  add_next wall e = next_told (checking s) (addition (rows_of s) s.totals.held (length s.table) wall) e
+
+  pub delete_next : (row : ℕ) → accepts (checking s) ≡ true → deletion (rows_of s) s.totals.held row ≡ delete_told s row
+  unfolding delete_told
+  delete_next row e = next_told (checking s) (deletion (rows_of s) s.totals.held row) e
+
+  -- The rows in use as the code has them.
+  module _ (rows : AcceptedTable) (ok : accepts (checking s) ≡ true) (same : rows.table.now ≡ rows_of s) where
+    pub count_is : rows.rows ≡ s.totals.rows
+    count_is =
+        let long : length rows.table.now ≡ 8 * s.totals.rows = ap length same ∙ in_use_long s (checked s ok).fits in
+        omega (arith, long, rows.rows_are, (accepted rows.table.now rows.of_house.stands.accepted).sizes)
+
+    house_same : rows.house ≡ house_of (rows_of s)
+    house_same = rows.of_house.row ∙ ap house_of same
+
+    pub add_stopped : (wall : List ℕ) (r : Refusal) → told (Err r) ≡ addition rows.table.now s.totals.held (length s.table) wall
+        → told (Err r) ≡ add_told s wall
+    add_stopped wall r e = e ∙ ap (λ (l : List ℕ). addition l s.totals.held (length s.table) wall) same ∙ add_next wall ok
+
+    pub delete_stopped : (row : ℕ) (r : Refusal) → told (Err r) ≡ deletion rows.table.now s.totals.held row → told (Err r) ≡ delete_told s row
+    delete_stopped row r e = e ∙ ap (λ (l : List ℕ). deletion l s.totals.held row) same ∙ delete_next row ok
+
+    -- A start makes this state.
+    module _ (sums : List ℕ) (sums_are : sums ≡ six_numbers rows.table.now (held rows.table.now)) where
+      pub start_state : on s.table (record { held = sums; rows = rows.rows }) ≡ started s
+      unfolding started
+      start_state = rw (sums_are, same, count_is)
+
+      pub start_house : HouseOf (rows_of (started s)) rows.house
+      unfolding started
+      start_house = house_is (rows_of s) (checked s ok).accepted house_same
+
+      pub start_within : some_above (storeys (rows_of (started s))) sums ≡ false
+      unfolding started
+      start_within = rw (sums_are, same) (sums_within (rows_of s) (checked s ok).accepted)
+
+    module _ (wall : List ℕ) (eight : length wall ≡ 8) (passed : accepts (addition rows.table.now s.totals.held (length s.table) wall) ≡ true) where
+      passes : additions.Passes (rows_of s) s.totals.held wall (length s.table)
+      passes = additions.told_passes (rows_of s) s.totals.held wall (length s.table) (rw same at passed)
+
+      pub ready : Ready s wall
+      ready = record {
+        eight = eight;
+        fits = (checked s ok).fits;
+        rows_accepted = (checked s ok).accepted;
+        ranged = passes.ranged;
+        few = passes.few;
+        room = passes.room;
+      }
+
+      pub add_accepts : accepts (add_told s wall) ≡ true
+      add_accepts = sym (ap accepts (add_next wall ok)) ∙ ap (λ (l : List ℕ). accepts (addition l s.totals.held (length s.table) wall)) (sym same) ∙ passed
+
+      -- The state that it makes.
+      module _ (at : ℕ) (at_is : at ≡ row_taken rows.table.now wall) (held : List ℕ) (held_is : held ≡ total_added rows.table.now s.totals.held wall) where
+        at_row : at ≡ row_taken (rows_of s) wall
+        at_row = at_is ∙ ap (λ (l : List ℕ). row_taken l wall) same
+
+        pub add_requires : (at ≤ rows.rows) × (8 * rows.rows + 8 ≤ length s.table)
+        add_requires = (omega (arith, at_row, count_is, add_fits s wall ready), omega (arith, count_is, add_fits s wall ready))
+
+        pub add_state : (table : List ℕ) → table ≡ over s.table (with_row (in_use s.table rows.rows) at wall)
+            → on table (record { held = held; rows = rows.rows + 1 }) ≡ with_wall s wall
+        unfolding with_wall
+        add_state table is = rw (is, at_row, held_is, same, count_is)
+
+        pub add_house : HouseOf (rows_of (with_wall s wall)) rows.house
+        add_house =
+            house_is (rows_of (with_wall s wall)) (add_judged s wall ready)
+            (house_same ∙ sym (ap house_of (add_rows s wall ready) ∙ same_house (add_put s wall ready) (omega (arith, add_stands s wall ready))))
+
+        pub add_within : some_above (storeys (rows_of (with_wall s wall))) held ≡ false
+        add_within =
+            let many : storeys (rows_of (with_wall s wall)) ≡ storeys (rows_of s) = ap storeys (add_rows s wall ready) ∙ (add_stands s wall ready).storeys_same in
+            rw (many, held_is, same) passes.within
+
+    module _ (row : ℕ) (passed : accepts (deletion rows.table.now s.totals.held row) ≡ true) where
+      left : deletions.Passes (rows_of s) s.totals.held row
+      left = deletions.told_passes (rows_of s) s.totals.held row (rw same at passed)
+
+      pub found : Found s row
+      found = record { fits = (checked s ok).fits; rows_accepted = (checked s ok).accepted; some = left.wall.some; kind = left.wall.kind }
+
+      pub delete_accepts : accepts (delete_told s row) ≡ true
+      delete_accepts = sym (ap accepts (delete_next row ok)) ∙ ap (λ (l : List ℕ). accepts (deletion l s.totals.held row)) (sym same) ∙ passed
+
+      -- The state that it makes.
+      module _ (at : ℕ) (at_is : at ≡ row - 1) (held : List ℕ) (held_is : held ≡ total_taken rows.table.now s.totals.held (row - 1)) where
+        pub delete_requires : (at < rows.rows) × (8 * rows.rows ≤ length s.table)
+        delete_requires = (omega (arith, at_is, count_is, delete_fits s row found), omega (arith, count_is, found.fits))
+
+        pub delete_state : (table : List ℕ) → table ≡ over s.table (without_row (in_use s.table rows.rows) at ++ empty_row)
+            → on table (record { held = held; rows = rows.rows - 1 }) ≡ without_wall s row
+        unfolding without_wall
+        delete_state table is = rw (is, at_is, held_is, same, count_is)
+
+        pub delete_house : HouseOf (rows_of (without_wall s row)) rows.house
+        delete_house =
+            house_is (rows_of (without_wall s row)) (delete_judged s row found)
+            (house_same ∙ same_house (delete_put s row found) (omega (arith, delete_stands s row found)) ∙ sym (ap house_of (delete_rows s row found)))
+
+        pub delete_within : some_above (storeys (rows_of (without_wall s row))) held ≡ false
+        delete_within =
+            let many : storeys (rows_of (without_wall s row)) ≡ storeys (rows_of s) = ap storeys (delete_rows s row found) ∙ sym (delete_stands s row found).storeys_same in
+            rw (many, held_is, same) left.within
