@@ -10,3 +10,4 @@ pub mod PutLists
 pub mod States
 pub mod OwnSums
 pub mod Changing
+pub mod Answering
