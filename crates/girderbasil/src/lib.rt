@@ -1,6 +1,6 @@
 // The functions that a host program calls, from C or Rust, and nothing else.
 //
-// Uses `answer`, `sheet`, `method` and `diagnosis`. Document 01: "The host program on the phone calls it with
+// Uses `answer`, `sheet`, `method`, `diagnosis` and `site`. Document 01: "The host program on the phone calls it with
 // numbers and byte slices and must get the same answers." A slice crosses as a pointer and its length in
 // elements, an answer as a struct of numbers by value: an enum or an Option cannot cross, and an array has
 // its count beside it. The definitions that tie these structs to the paper's values stand in
@@ -12,10 +12,12 @@ ghost use Rattle.answer.specs.Told.{told};
 ghost use Rattle.sheet.specs.Sheet.{reading, after_reading};
 ghost use Rattle.diagnosis.specs.Answers.{told_scoring, scoring};
 ghost use Rattle.diagnosis.specs.Report.{reporting, after_reporting};
+ghost use Rattle.site.specs.Changes.{on, starting, after_starting, adding, after_adding, deleting, after_deleting};
 ghost use Rattle.girderbasil.specs.Host.{told_host, host_numbers, told_host_scoring, host_output, printed_for};
 
-use answer::{Answer, Refusal};
+use answer::{Answer, ROW, Refusal};
 use diagnosis::{MOST_REPORT_BYTES, ProgramOutput, Record};
+use site::Totals;
 
 // Every answer begins with the same three fields, so that a host reads any refusal in one way.
 
@@ -165,4 +167,46 @@ pub extern "C" fn girderbasil_diagnose(sheet: &[u8]) -> HostOutput
     ensures { result ≡ printed_for sheet.now }
 {
     diagnosis::output_of(sheet).into()
+}
+
+// The three functions for changes on site. The host lends its own record, `site`'s `Totals`, by a pointer, and a
+// wall's eight numbers by another.
+
+// Starts from a table, of which so many rows are in use as the record says: fills in every sum, and answers the
+// scores, or the refusal. A refusal changes nothing.
+#[unsafe(no_mangle)]
+pub extern "C" fn girderbasil_start(totals: &mut Totals, table: &[u32]) -> HostScoring
+    ensures answer { told_host_scoring result ≡ starting (on table.now totals.old) }
+    ensures totals { totals.new ≡ (after_starting (on table.now totals.old)).totals }
+{
+    site::start(totals, table).into()
+}
+
+// Adds a wall: the scores, or the refusal. The rows from its row on move down one. A refusal changes nothing.
+#[unsafe(no_mangle)]
+pub extern "C" fn girderbasil_add_wall(
+    totals: &mut Totals,
+    table: &mut [u32],
+    wall: &[u32; ROW],
+) -> HostScoring
+    ensures answer { told_host_scoring result ≡ adding (on table.old totals.old) wall.now }
+    ensures table { table.new ≡ (after_adding (on table.old totals.old) wall.now).table }
+    ensures totals { totals.new ≡ (after_adding (on table.old totals.old) wall.now).totals }
+{
+    site::add_wall(totals, table, wall).into()
+}
+
+// Deletes a wall, by its row, which counts from 1: the scores, or the refusal. The rows after it move up one, and
+// the last row in use is set to 0. A refusal changes nothing.
+#[unsafe(no_mangle)]
+pub extern "C" fn girderbasil_delete_wall(
+    totals: &mut Totals,
+    table: &mut [u32],
+    row: u32,
+) -> HostScoring
+    ensures answer { told_host_scoring result ≡ deleting (on table.old totals.old) row }
+    ensures table { table.new ≡ (after_deleting (on table.old totals.old) row).table }
+    ensures totals { totals.new ≡ (after_deleting (on table.old totals.old) row).totals }
+{
+    site::delete_wall(totals, table, row).into()
 }
