@@ -20,15 +20,17 @@ impl Refusal {
     pub const LENT_SPACE_SHORT: u32 = 9;
     pub const NO_SUCH_DAY: u32 = 10;
     pub const DATES_OUT_OF_ORDER: u32 = 11;
+    pub const NO_SUCH_WALL: u32 = 12;
 
     /// A refusal of the whole sheet or table.
     pub const fn without_place(number: u32) -> Self {
         Self::at(number, 0, 0)
     }
 
-    /// A refusal at a row and column, both counted from 1.
+    /// A refusal at a row and column, both counted from 1; the column is 0 where the whole row is meant.
     pub const fn at(number: u32, row: usize, column: usize) -> Self {
-        // A row is at most one past the last of the longest table, so neither place is ever cut short.
+        // A row is at most one past the last of the longest table, or one that a caller named in 32 bits, so neither place
+        // is ever cut short.
         Self {
             number,
             row: row as u32,

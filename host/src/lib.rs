@@ -8,6 +8,7 @@ pub mod days;
 pub mod library;
 pub mod model;
 pub mod random;
+pub mod site;
 pub mod worked;
 
 /// The bytes of a sheet's line: eight fields, then a line feed.

@@ -1,5 +1,5 @@
-//! Document 01 as a program, a file for each of its sections, with the snow, the dates, the remainders and the repairs of
-//! document 02.
+//! Document 01 as a program, a file for each of its sections, with the snow, the dates, the remainders, the repairs and the
+//! changes on site of document 02.
 //!
 //! It shares no code and no table with the proved library, so that the two can be compared.
 
@@ -11,6 +11,7 @@ pub mod report;
 pub mod required;
 pub mod score;
 pub mod sheet;
+pub mod site;
 pub mod survey;
 
 pub use report::{diagnose, write_report};

@@ -1,6 +1,8 @@
 //! Houses worked through in the papers: document 01's P1 and P10, and the manual's. Beside them P1 and another house
-//! under snow, P1 with other dates, P1 repaired, houses whose records are worked out by hand, and two sheets that are
-//! refused.
+//! under snow, P1 with other dates, P1 repaired, houses whose records are worked out by hand, two sheets that are
+//! refused, and changes of P1 on site.
+
+pub mod site;
 
 use crate::answers::Record;
 use crate::{FIELD, LINE, MOST_WALLS, ROW};

@@ -5,9 +5,11 @@ use girderbasil_host::model::deterioration::{self, Fraction};
 use girderbasil_host::model::layout::Band;
 use girderbasil_host::model::score::{Diagnosis, verdict};
 use girderbasil_host::model::survey::{Ends, House, Parts, Storey, Wall, WallKind};
-use girderbasil_host::model::{self, held, required};
+use girderbasil_host::model::{self, held, required, site};
+use girderbasil_host::site::Totals;
+use girderbasil_host::worked::site::{WALL, scripts};
 use girderbasil_host::worked::{self, changed};
-use girderbasil_host::{LINE, MOST_REPORT_BYTES, MOST_ROWS, ROW};
+use girderbasil_host::{LINE, MOST_REPORT_BYTES, MOST_ROWS, MOST_WALLS, ROW};
 
 const ALL_PARTS: u32 = 8191;
 
@@ -485,4 +487,75 @@ fn misprints() {
     assert_eq!(read(&[(64, b"\r"), (63, b"x")]), Err(refused(2, 1, 8)));
     let largest = read(&[(LINE + 8, b"99999999")]).unwrap();
     assert_eq!(largest[ROW + 1], 99_999_999);
+}
+
+#[test]
+fn changes_on_site_as_they_are_worked_out() {
+    for script in scripts() {
+        let (mut lent, mut totals) = (script.lent, script.totals);
+        for (index, step) in script.steps.iter().enumerate() {
+            let answer = site::change(&mut totals, &mut lent, &step.change);
+            let name = format!("{}, call {}", script.name, index + 1);
+            assert_eq!(answer.map(|record| record.scores), step.answer, "{name}");
+            assert_eq!(totals, step.totals, "{name}");
+            assert_eq!(lent, step.lent, "{name}");
+        }
+    }
+}
+
+/// A table with a record that counts its rows and has yet to be started.
+fn on_site(mut table: Vec<u32>, room: usize) -> (Totals, Vec<u32>) {
+    let rows = (table.len() / ROW) as u32;
+    table.extend(vec![7; room]);
+    (Totals { held: [0; 6], rows }, table)
+}
+
+#[test]
+fn the_place_of_a_deleted_wall_serves_again() {
+    let (mut totals, mut lent) = on_site(with_walls(MOST_WALLS), ROW);
+    assert!(site::start(&mut totals, &lent).is_ok());
+    let before = (totals, lent.clone());
+    let too_many = Err(refused(5, 308, 1));
+    assert_eq!(site::add_wall(&mut totals, &mut lent, &WALL), too_many);
+    assert!(site::delete_wall(&mut totals, &mut lent, 307).is_ok());
+    assert_eq!(lent[308 * ROW..], [[0; ROW], [7; ROW]].concat());
+    let last: &[u32; ROW] = before.1[306 * ROW..].first_chunk().unwrap();
+    assert!(site::add_wall(&mut totals, &mut lent, last).is_ok());
+    assert!((totals, &lent) == (before.0, &before.1));
+    assert_eq!(site::add_wall(&mut totals, &mut lent, &WALL), too_many);
+}
+
+/// The rows in use come first; of a new wall its ranges, then the number of walls, then the room, then the totals.
+#[test]
+fn refusals_on_site_in_their_order() {
+    let wrong = [5, 9, 0, 0, 0, 0, 0, 0];
+    let beyond = u64::MAX;
+    let add = |table: Vec<u32>, room, wall: &[u32; ROW]| {
+        let (mut totals, mut lent) = on_site(table, room);
+        totals.held[1] = beyond;
+        site::add_wall(&mut totals, &mut lent, wall).unwrap_err()
+    };
+    let no_parts = changed(&[(11, 2, 0), (11, 3, 0)]);
+    assert_eq!(add(no_parts, 0, &wrong), refused(8, 11, 2));
+    assert_eq!(add(with_walls(300), 0, &wrong), refused(4, 308, 1));
+    assert_eq!(add(with_walls(300), 0, &WALL), refused(5, 308, 1));
+    assert_eq!(add(with_walls(299), ROW - 1, &WALL), refused(9, 0, 0));
+    assert_eq!(add(with_walls(299), ROW, &WALL), refused(12, 0, 0));
+}
+
+/// With none whose storey isn't above its own it comes after the ends.
+#[test]
+fn a_wall_takes_the_row_after_its_own_storeys() {
+    let wall = |storey| [4, storey, 2, 1, 30, 900, 2, 1];
+    let (mut totals, mut lent) = on_site(with_walls(0), 4 * ROW);
+    assert!(site::start(&mut totals, &lent).is_ok());
+    for (storey, row) in [(2, 8), (1, 8), (2, 10), (1, 9)] {
+        assert!(site::add_wall(&mut totals, &mut lent, &wall(storey)).is_ok());
+        assert_eq!(lent[(row - 1) * ROW..][..ROW], wall(storey), "row {row}");
+    }
+    let storeys = (7..11).map(|index| lent[index * ROW + 1]);
+    assert!(storeys.eq([1, 1, 2, 2]));
+    let held = totals.held;
+    assert!(site::start(&mut totals, &lent).is_ok());
+    assert_eq!(totals.held, held);
 }

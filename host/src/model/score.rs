@@ -9,7 +9,7 @@ use crate::answers::{Record, Refusal};
 
 const MOST_SCORE: u64 = 999;
 
-/// A survey with what is worked out once for the whole house.
+/// A survey with what is worked out once for the whole house, and with held strengths that may be others than its walls'.
 pub struct Diagnosis<'table> {
     pub survey: Survey<'table>,
     held: [[Held; 2]; 3],
@@ -62,6 +62,20 @@ impl<'table> Diagnosis<'table> {
         })
     }
 
+    /// The sums over the walls in all six places; 0 where the house lacks the storey.
+    pub fn sums(&self) -> [u64; 6] {
+        let sums = self.held.as_flattened();
+        std::array::from_fn(|place| sums[place].total)
+    }
+
+    /// The same house with other held strengths in the six places. Its ends keep what their own walls hold.
+    pub fn with_held(mut self, held: &[u64; 6]) -> Self {
+        for (place, &total) in self.held.as_flattened_mut().iter_mut().zip(held) {
+            place.total = total;
+        }
+        self
+    }
+
     /// How many scores there are: two a storey.
     pub fn count(&self) -> u32 {
         2 * self.survey.house.storeys
@@ -71,6 +85,25 @@ impl<'table> Diagnosis<'table> {
     pub fn assessments(&self) -> impl Iterator<Item = Assessment> {
         (1..=self.survey.house.storeys)
             .flat_map(|storey| [1, 2].map(|direction| self.assessment(storey, direction)))
+    }
+
+    /// The record that scoring answers.
+    pub fn record(&self) -> Record {
+        let mut record = Record {
+            count: self.count(),
+            started_by_31_may_1981: u32::from(self.survey.dates.started_by_31_may_1981()),
+            ..Record::default()
+        };
+        for (place, assessment) in self.assessments().enumerate() {
+            let score = assessment.score();
+            record.scores[place] = score.limited();
+            record.hundredths[place] = score.hundredths;
+            record.remainders[place] = score.remainder;
+            record.divisors[place] = score.divisor;
+        }
+        let least = record.scores[..record.count as usize].iter().min();
+        record.verdict = verdict(*least.expect("a house has a storey"));
+        record
     }
 
     fn assessment(&self, storey: u32, direction: u32) -> Assessment {
@@ -121,22 +154,7 @@ impl Assessment {
 
 /// The record of a table.
 pub fn score(table: &[u32]) -> Result<Record, Refusal> {
-    let diagnosis = Diagnosis::of(table)?;
-    let mut record = Record {
-        count: diagnosis.count(),
-        started_by_31_may_1981: u32::from(diagnosis.survey.dates.started_by_31_may_1981()),
-        ..Record::default()
-    };
-    for (place, assessment) in diagnosis.assessments().enumerate() {
-        let score = assessment.score();
-        record.scores[place] = score.limited();
-        record.hundredths[place] = score.hundredths;
-        record.remainders[place] = score.remainder;
-        record.divisors[place] = score.divisor;
-    }
-    let least = record.scores[..record.count as usize].iter().min();
-    record.verdict = verdict(*least.expect("a house has a storey"));
-    Ok(record)
+    Ok(Diagnosis::of(table)?.record())
 }
 
 /// The verdict of the least score, which is in hundredths.

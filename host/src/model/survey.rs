@@ -113,6 +113,24 @@ impl Survey<'_> {
         }
     }
 
+    /// The index, from 0, of the row that a wall of a storey takes: after the last wall whose storey isn't above its own, and
+    /// with none, after the ends.
+    pub fn index_for_wall(&self, storey: u32) -> usize {
+        let not_above = |row: &Row| row[1] <= storey;
+        let walls_before = self.walls.iter().rposition(not_above);
+        self.first_wall() + walls_before.map_or(0, |last| last + 1)
+    }
+
+    /// The wall row at an index among all rows, from 0; none where that row is no wall.
+    pub fn wall_at(&self, index: usize) -> Option<&Row> {
+        self.walls.get(index.checked_sub(self.first_wall())?)
+    }
+
+    /// The index of the row after the ends.
+    fn first_wall(&self) -> usize {
+        1 + self.storeys.len() + self.ends.len()
+    }
+
     pub fn walls(&self) -> impl Iterator<Item = Wall> {
         self.walls.iter().map(Wall::from)
     }
@@ -164,6 +182,14 @@ pub fn judge(table: &[u32]) -> Result<Survey<'_>, Refusal> {
         ends: &rows[first_end..first_wall],
         walls,
     })
+}
+
+/// Refuses a wall beyond as many as a house may have, at the row of an index.
+pub fn judge_number_of_walls(before: usize, index: usize) -> Result<(), Refusal> {
+    if before == MOST_WALLS {
+        return Err(refusal(Refusal::TOO_MANY_WALLS, index, 1));
+    }
+    Ok(())
 }
 
 /// A refusal at the row of an index, which counts from 0.
@@ -261,20 +287,28 @@ fn judge_walls(rows: &[Row], first: usize, storeys: u32) -> Result<&[Row], Refus
             return Err(refusal(Refusal::ROW_OUT_OF_ORDER, index, 1));
         }
         judge_wall(index, row, storeys)?;
-        if count == MOST_WALLS {
-            return Err(refusal(Refusal::TOO_MANY_WALLS, index, 1));
-        }
+        judge_number_of_walls(count, index)?;
         storey_before = storey;
         count += 1;
     }
     Ok(&candidates[..count])
 }
 
-fn judge_wall(index: usize, row: &Row, storeys: u32) -> Result<(), Refusal> {
-    let [_, storey, direction, place, strength, length, joint, kind] = *row;
+/// Judges a wall's row, or one that is to become a wall's, by its ranges; "a kind other than 4" is out of them too.
+pub fn judge_wall(index: usize, row: &Row, storeys: u32) -> Result<(), Refusal> {
+    let [
+        row_kind,
+        storey,
+        direction,
+        place,
+        strength,
+        length,
+        joint,
+        kind,
+    ] = *row;
     let opening = matches!(kind, 2..=3);
     let in_range = [
-        true,
+        row_kind == WALL,
         (1..=storeys).contains(&storey),
         matches!(direction, 1..=2),
         matches!(place, 1..=3),
