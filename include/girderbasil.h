@@ -1,14 +1,16 @@
 /* Girderbasil: earthquake diagnosis sheets of Japanese wooden houses, scored (general diagnosis, method 1).
  *
- * Four functions. Three go from a sheet's bytes to its report's by steps: read, score, write report. The
- * fourth, diagnose, goes all the way at once, and for a refused sheet has the line that tells the refusal.
+ * Seven functions. Three go from a sheet's bytes to its report's by steps: read, score, write report. The
+ * fourth, diagnose, goes all the way at once, and for a refused sheet has the line that tells the refusal. The
+ * other three are for changes on site: start, and then add wall and delete wall, each with the new scores.
  * Each is proved to answer what the customer's papers (documents 01 and 02) define, for every input, and to
  * leave lent storage as they define. None keeps anything between calls, allocates, or calls the system, so any
  * threads may call them.
  *
  * What the caller has to see to, as with any C function: a pointer is aligned for its type and stands for as
  * many elements as the length beside it says, and storage that is lent to be filled overlaps no other
- * argument. With length 0 the pointer may be null. A call takes some 12 KB of stack at most, and one of
+ * argument. With length 0 the pointer may be null. A pointer with no length beside it is never null: `totals`
+ * stands for one struct, and `wall` for eight numbers. A call takes some 12 KB of stack at most, and one of
  * diagnose, which holds a table of its own, some 26 KB; in the first call the system may need more, to load
  * memcpy.
  *
@@ -37,7 +39,8 @@ enum {
     GIRDERBASIL_NO_PARTS = 8,
     GIRDERBASIL_LENT_SPACE_SHORT = 9,
     GIRDERBASIL_NO_SUCH_DAY = 10,
-    GIRDERBASIL_DATES_OUT_OF_ORDER = 11
+    GIRDERBASIL_DATES_OUT_OF_ORDER = 11,
+    GIRDERBASIL_NO_SUCH_WALL = 12
 };
 
 /* The bytes of a line, the numbers of a row; the most walls of a house; and the most rows and bytes that are
@@ -94,6 +97,14 @@ typedef struct {
     uint8_t bytes[GIRDERBASIL_MOST_REPORT_BYTES];
 } girderbasil_output;
 
+/* What a surveyor keeps on site beside the table: the record of its rows in use and of what its walls hold. The caller
+ * sets `rows`, and start fills in `held`; then each change keeps both up. What has six places goes as in a scoring.
+ */
+typedef struct girderbasil_totals {
+    uint64_t held[6]; /* the held strength of each storey and direction, in 0.000001 kN */
+    uint32_t rows;    /* how many of the table's rows are in use, from its first */
+} girderbasil_totals;
+
 /* The structs as the library has them. A compiler of C11 or C++11 refuses this header where its own differ. */
 #if defined(__cplusplus)
 #if __cplusplus >= 201103L
@@ -125,6 +136,9 @@ girderbasil_assert(offsetof(girderbasil_output, row) == 4);
 girderbasil_assert(offsetof(girderbasil_output, column) == 8);
 girderbasil_assert(offsetof(girderbasil_output, count) == 12);
 girderbasil_assert(offsetof(girderbasil_output, bytes) == 16);
+girderbasil_assert(sizeof(girderbasil_totals) == 56);
+girderbasil_assert(offsetof(girderbasil_totals, held) == 0);
+girderbasil_assert(offsetof(girderbasil_totals, rows) == 48);
 #undef girderbasil_assert
 #endif
 
@@ -157,6 +171,42 @@ girderbasil_answer girderbasil_write_report(const uint32_t *table, size_t table_
  * refused with any number but 9, as reading and then scoring refuse: there is always room.
  */
 girderbasil_output girderbasil_diagnose(const uint8_t *sheet, size_t sheet_length);
+
+/* Changes on site. The table is lent whole and may have any length; its first `totals->rows` rows are in use, and
+ * numbers after them are not read. Each of the three functions first judges the rows in use as girderbasil_score does,
+ * with 1 also where they are more than the table has. Then it answers the scores of what `totals` says is held; all
+ * else is that of the rows. A refusal changes neither the table nor the totals.
+ *
+ * From a start that is accepted on, with nothing else written between, the totals are the sums over the walls, and
+ * each answer is what girderbasil_score gives for the rows in use. From other totals each change moves them by its
+ * wall's share alone. Of a storey that the house lacks they are neither looked at nor changed, but by start, which
+ * sets them to 0.
+ */
+
+/* Fills in what the walls hold in all six places. Set `totals->rows` first: after reading, to the count of rows.
+ * Refused as scoring refuses.
+ */
+girderbasil_scoring girderbasil_start(girderbasil_totals *totals, const uint32_t *table, size_t table_length);
+
+/* Adds a wall, given as the eight numbers of its row. It goes after the last wall whose storey isn't above its own,
+ * or with none, after the ends; the rows from there on move down one.
+ *
+ * Refused as scoring refuses; else with 4 for a column of the wall (a kind other than 4 is column 1), or with 5 where
+ * the house has GIRDERBASIL_MOST_WALLS walls, both at the row that the wall would take; else with 9 where the table has
+ * no eight numbers more than the rows in use; else with 12 where a total of the house would then be more than
+ * 60,000,000,000, which never comes from totals that are the sums.
+ */
+girderbasil_scoring girderbasil_add_wall(girderbasil_totals *totals, uint32_t *table, size_t table_length,
+                                         const uint32_t *wall);
+
+/* Deletes the wall at a row, counted from 1. The rows after it move up one, and the last row in use is set to 0.
+ *
+ * Refused as scoring refuses; else with 12 at that row, column 0, where it is no wall of the rows in use; else with 12
+ * without a place where its total is less than its share, or a total of the house would then be more than
+ * 60,000,000,000. Neither comes from totals that are the sums.
+ */
+girderbasil_scoring girderbasil_delete_wall(girderbasil_totals *totals, uint32_t *table, size_t table_length,
+                                            uint32_t row);
 
 #ifdef __cplusplus
 }

@@ -4,8 +4,9 @@
  * `tools/archive wasm32` writes. Nothing of a house is computed here: arguments are copied into the module's memory,
  * one function is called, and its answer is copied out.
  *
- * As in the header, storage is lent: `read` and `writeReport` fill the array they are given, from its front, and leave
- * it alone where they refuse. An instance is for one thread; each worker loads its own.
+ * As in the header, storage is lent: `read` and `writeReport` fill the array they are given, from its front, `start`,
+ * `addWall` and `deleteWall` change the totals, the last two the table as well, and all of them leave it alone where they
+ * refuse. An instance is for one thread; each worker loads its own.
  */
 
 /** The bytes of a sheet's line. */
@@ -39,6 +40,7 @@ export const LAYOUTS = Object.freeze({
         divisors: 144,
     }),
     girderbasil_output: Object.freeze({ size: 472, number: 0, row: 4, column: 8, count: 12, bytes: 16 }),
+    girderbasil_totals: Object.freeze({ size: 56, held: 0, rows: 48 }),
 });
 
 /**
@@ -77,12 +79,35 @@ export const LAYOUTS = Object.freeze({
  * @property {Uint8Array} bytes
  */
 
+/**
+ * What a surveyor keeps on site beside the table: `{ held: new BigUint64Array(6), rows: read.count }` to start with.
+ * @typedef {object} Totals
+ * @property {BigUint64Array} held the held strength of each storey and direction, in 0.000001 kN, as a scoring has its places
+ * @property {number} rows how many of the table's rows are in use, from its first
+ */
+
 /** @typedef {Uint8Array | Uint32Array} Storage */
+
+/**
+ * Storage as an argument: `counted` where its length follows its address, `lent` where the function may change it.
+ * @typedef {object} Place
+ * @property {Storage} storage
+ * @property {boolean} counted
+ * @property {boolean} lent
+ */
 
 /** The most that an answer takes. */
 const ANSWER = Math.max(...Object.values(LAYOUTS).map((layout) => layout.size));
 /** The functions of the header. */
-const FUNCTIONS = ["girderbasil_read", "girderbasil_score", "girderbasil_write_report", "girderbasil_diagnose"];
+const FUNCTIONS = [
+    "girderbasil_read",
+    "girderbasil_score",
+    "girderbasil_write_report",
+    "girderbasil_diagnose",
+    "girderbasil_start",
+    "girderbasil_add_wall",
+    "girderbasil_delete_wall",
+];
 const PAGE = 65536;
 /** The places of a record's scores. */
 const PLACES = [0, 1, 2, 3, 4, 5];
@@ -139,8 +164,8 @@ class Girderbasil {
      */
     read(sheet, table) {
         const given = viewOf("read", "sheet", sheet, Uint8Array);
-        const lent = viewOf("read", "table", table, Uint32Array);
-        return answerAt(this.#call("girderbasil_read", given, lent));
+        const filled = viewOf("read", "table", table, Uint32Array);
+        return answerAt(this.#call("girderbasil_read", read(given), lent(filled)));
     }
 
     /**
@@ -149,7 +174,7 @@ class Girderbasil {
      * @returns {Scoring}
      */
     score(table) {
-        return scoringAt(this.#call("girderbasil_score", viewOf("score", "table", table, Uint32Array)));
+        return scoringAt(this.#call("girderbasil_score", read(viewOf("score", "table", table, Uint32Array))));
     }
 
     /**
@@ -160,8 +185,8 @@ class Girderbasil {
      */
     writeReport(table, report) {
         const given = viewOf("writeReport", "table", table, Uint32Array);
-        const lent = viewOf("writeReport", "report", report, Uint8Array);
-        return answerAt(this.#call("girderbasil_write_report", given, lent));
+        const filled = viewOf("writeReport", "report", report, Uint8Array);
+        return answerAt(this.#call("girderbasil_write_report", read(given), lent(filled)));
     }
 
     /**
@@ -170,34 +195,107 @@ class Girderbasil {
      * @returns {Output}
      */
     diagnose(sheet) {
-        return outputAt(this.#call("girderbasil_diagnose", viewOf("diagnose", "sheet", sheet, Uint8Array)));
+        return outputAt(this.#call("girderbasil_diagnose", read(viewOf("diagnose", "sheet", sheet, Uint8Array))));
     }
 
     /**
-     * Calls a function of the module with storage that it reads and, for some, storage that it fills. In its memory the
-     * answer comes first, then both of these; the next call uses the same place. What was filled is copied out, unless
-     * the function refused: then it left the storage as it was.
+     * Fills in what the walls of a table's rows in use hold, and scores them. Set `totals.rows` first.
+     * @param {Totals} totals
+     * @param {Uint32Array} table
+     * @returns {Scoring}
+     */
+    start(totals, table) {
+        return this.#change("start", "girderbasil_start", totals, read(viewOf("start", "table", table, Uint32Array)));
+    }
+
+    /**
+     * Adds a wall, the eight numbers of its row, after the last whose storey isn't above its own, and scores the totals.
+     * @param {Totals} totals
+     * @param {Uint32Array} table
+     * @param {Uint32Array} wall
+     * @returns {Scoring}
+     */
+    addWall(totals, table, wall) {
+        const rows = lent(viewOf("addWall", "table", table, Uint32Array));
+        const row = viewOf("addWall", "wall", wall, Uint32Array);
+        requireLength("addWall", "wall", row, ROW);
+        return this.#change("addWall", "girderbasil_add_wall", totals, rows, { ...read(row), counted: false });
+    }
+
+    /**
+     * Deletes the wall at a row of the table, counted from 1, and scores the totals.
+     * @param {Totals} totals
+     * @param {Uint32Array} table
+     * @param {number} row
+     * @returns {Scoring}
+     */
+    deleteWall(totals, table, row) {
+        const rows = lent(viewOf("deleteWall", "table", table, Uint32Array));
+        const number = requireNumber("deleteWall", "row", row);
+        return this.#change("deleteWall", "girderbasil_delete_wall", totals, rows, number);
+    }
+
+    /**
+     * Calls a function that may change totals. They cross as the header's struct, which is copied out unless the function
+     * refused.
+     * @param {string} method
      * @param {string} name
-     * @param {Storage} given
-     * @param {Storage} [lent]
+     * @param {Totals} totals
+     * @param {...(Place | number)} others
+     * @returns {Scoring}
+     */
+    #change(method, name, totals, ...others) {
+        const layout = LAYOUTS.girderbasil_totals;
+        const held = viewOf(method, "totals.held", totals?.held, BigUint64Array);
+        requireLength(method, "totals.held", held, PLACES.length);
+        const rows = requireNumber(method, "totals.rows", totals.rows);
+        const struct = new Uint8Array(layout.size);
+        const fields = new DataView(struct.buffer);
+        held.forEach((total, each) => fields.setBigUint64(layout.held + 8 * each, total, true));
+        fields.setUint32(layout.rows, rows, true);
+        const scoring = scoringAt(this.#call(name, { ...lent(struct), counted: false }, ...others));
+        if (scoring.number === 0) {
+            held.set(bigintsAt(fields, layout.held));
+            totals.rows = numberAt(fields, layout.rows);
+        }
+        return scoring;
+    }
+
+    /**
+     * Calls a function of the module with storage and numbers. In its memory the answer comes first, then all storage, one
+     * after the other; the next call uses the same place. What was lent is copied out, unless the function refused: then it
+     * left the storage as it was.
+     * @param {string} name
+     * @param {...(Place | number)} parameters
      * @returns {DataView} the answer's struct
      */
-    #call(name, given, lent) {
+    #call(name, ...parameters) {
         const answer = aligned(this.#exports.__heap_base.value);
-        const from = answer + aligned(ANSWER);
-        const to = from + aligned(given.byteLength);
-        this.#reserve(to + (lent === undefined ? 0 : lent.byteLength));
-        this.#storage(given, from).set(given);
-        const words = [answer, from, BigInt(given.length)];
-        if (lent === undefined) {
-            this.#exports[name](...words);
-        } else {
-            this.#storage(lent, to).set(lent);
-            this.#exports[name](...words, to, BigInt(lent.length));
+        /** @type {(number | bigint)[]} */
+        const words = [];
+        /** @type {(Place & { address: number })[]} */
+        const places = [];
+        let end = answer + aligned(ANSWER);
+        for (const parameter of parameters) {
+            if (typeof parameter === "number") {
+                words.push(parameter);
+                continue;
+            }
+            const { storage, counted } = parameter;
+            words.push(end, ...(counted ? [BigInt(storage.length)] : []));
+            places.push({ ...parameter, address: end });
+            end = aligned(end + storage.byteLength);
         }
+        this.#reserve(end);
+        for (const { storage, address } of places) {
+            this.#storage(storage, address).set(storage);
+        }
+        this.#exports[name](answer, ...words);
         const view = new DataView(this.#memory.buffer, answer, ANSWER);
-        if (lent !== undefined && numberAt(view) === 0) {
-            lent.set(this.#storage(lent, to));
+        if (numberAt(view) === 0) {
+            for (const { storage, address } of places.filter((place) => place.lent)) {
+                storage.set(this.#storage(storage, address));
+            }
         }
         return view;
     }
@@ -223,6 +321,24 @@ class Girderbasil {
             this.#memory.grow(Math.ceil(missing / PAGE));
         }
     }
+}
+
+/**
+ * Storage that a function only reads.
+ * @param {Storage} storage
+ * @returns {Place}
+ */
+function read(storage) {
+    return { storage, counted: true, lent: false };
+}
+
+/**
+ * Storage that a function may change.
+ * @param {Storage} storage
+ * @returns {Place}
+ */
+function lent(storage) {
+    return { storage, counted: true, lent: true };
 }
 
 /**
@@ -319,7 +435,7 @@ const lengthOf = arrayProperty("length");
 
 /**
  * A plain view of an argument's elements.
- * @template {Uint8ArrayConstructor | Uint32ArrayConstructor} Kind
+ * @template {Uint8ArrayConstructor | Uint32ArrayConstructor | BigUint64ArrayConstructor} Kind
  * @param {string} method
  * @param {string} name
  * @param {unknown} value
@@ -335,6 +451,33 @@ function viewOf(method, name, value, Kind) {
     } catch {
         throw new TypeError(`${method}: the ${name}'s memory is gone: its buffer was handed over or made smaller`);
     }
+}
+
+/**
+ * @param {string} method
+ * @param {string} name
+ * @param {{ length: number }} view
+ * @param {number} length
+ */
+function requireLength(method, name, view, length) {
+    if (view.length !== length) {
+        throw new TypeError(`${method}: the ${name} must have ${length} numbers, not ${view.length}`);
+    }
+}
+
+/**
+ * A number as it crosses, of 32 bits and not below 0.
+ * @param {string} method
+ * @param {string} name
+ * @param {unknown} value
+ * @returns {number}
+ */
+function requireNumber(method, name, value) {
+    if (typeof value === "number" && value === value >>> 0) {
+        return value;
+    }
+    const found = typeof value === "number" ? value : described(value);
+    throw new TypeError(`${method}: the ${name} must be a whole number of 32 bits, not ${found}`);
 }
 
 /** @param {unknown} value */

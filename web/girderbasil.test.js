@@ -133,6 +133,103 @@ test("a refusal has its number and place, and changes nothing that was lent", ()
     assert.equal(text(output.bytes.subarray(0, output.count)), "       0       6       3       4" + "       0".repeat(4) + "\n");
 });
 
+// P1 on site: its table with room for some rows more, of fives, and totals that are not started.
+function onSite(rows = 2) {
+    const table = new Uint32Array(96 + rows * ROW).fill(5);
+    table.set(tableOf(sheet));
+    return { table, totals: { held: new BigUint64Array(6).fill(9n), rows: 12 } };
+}
+
+// A wall of 2 m in X, and what P1's walls hold.
+const wall = Uint32Array.of(4, 1, 1, 2, 20, 2000, 1, 1);
+const held = (x, y, above = 0n) => BigUint64Array.of(x, y, above, above, above, above);
+
+test("walls are drawn in and rubbed out, each time with the new scores", () => {
+    const { table, totals } = onSite();
+    assert.deepEqual(library.start(totals, table), { ...accepted, ...record });
+    assert.deepEqual(totals, { held: held(9200000n, 16000000n), rows: 12 });
+    assert.deepEqual(table, onSite().table);
+
+    const p1 = [...tableOf(sheet)];
+    const fives = Array(ROW).fill(5);
+    const added = library.addWall(totals, table, wall);
+    assert.deepEqual([added.number, added.scores.slice(0, 2)], [0, [68, 83]]);
+    assert.deepEqual(totals, { held: held(13200000n, 16000000n), rows: 13 });
+    assert.deepEqual([...table], [...p1.slice(0, 80), ...wall, ...p1.slice(80), ...fives]);
+
+    const deleted = library.deleteWall(totals, table, 6);
+    assert.deepEqual([deleted.number, deleted.scores.slice(0, 2)], [0, [62, 83]]);
+    assert.deepEqual(totals, { held: held(12000000n, 16000000n), rows: 12 });
+    const rows = [...p1.slice(0, 40), ...p1.slice(48, 80), ...wall, ...p1.slice(80)];
+    assert.deepEqual([...table], [...rows, ...Array(ROW).fill(0), ...fives]);
+    assert.deepEqual(library.score(table.subarray(0, 96)), deleted);
+
+    const opened = library.addWall(totals, table, Uint32Array.of(4, 1, 2, 2, 0, 3001, 0, 3));
+    assert.deepEqual([opened.number, opened.scores.slice(0, 2)], [0, [62, 88]]);
+    assert.deepEqual(totals, { held: held(12000000n, 16900000n), rows: 13 });
+});
+
+test("a refused change leaves the table and the totals alone", () => {
+    const changed = (column, number) => Object.assign(wall.slice(), { [column - 1]: number });
+    for (const [call, rows, place] of [
+        [(totals, table) => library.deleteWall(totals, table, 11), 12, [12, 11, 0]],
+        [(totals, table) => library.deleteWall(totals, table, 4294967295), 12, [12, 4294967295, 0]],
+        [(totals, table) => library.deleteWall(totals, table, 5), 12, [12, 0, 0]],
+        [(totals, table) => library.addWall(totals, table, changed(2, 2)), 12, [4, 11, 2]],
+        [(totals, table) => library.addWall(totals, table, changed(2, 0)), 12, [4, 5, 2]],
+        [(totals, table) => library.addWall(totals, table, changed(1, 5)), 12, [4, 11, 1]],
+        [(totals, table) => library.addWall(totals, table.subarray(0, 103), wall), 12, [9, 0, 0]],
+        [(totals, table) => library.start(totals, table), 11, [3, 12, 1]],
+        [(totals, table) => library.start(totals, table), 0, [1, 0, 0]],
+        [(totals, table) => library.start(totals, table), 15, [1, 0, 0]],
+        [(totals, table) => library.start(totals, table), 4294967295, [1, 0, 0]],
+    ]) {
+        const { table, totals } = onSite();
+        totals.rows = rows;
+        const { number, row, column, count } = call(totals, table);
+        assert.deepEqual([number, row, column, count], [...place, 0]);
+        assert.deepEqual([table, totals], [onSite().table, { held: held(9n, 9n, 9n), rows }]);
+    }
+});
+
+// Totals of a storey that the house lacks are nobody's, and may be more than a number of JavaScript holds exactly.
+test("only the total of a wall's own storey and direction moves", () => {
+    const { table, totals } = onSite();
+    totals.held = held(59996000000n, 0n, 2n ** 64n - 1n);
+    assert.equal(library.addWall(totals, table, wall).number, 0);
+    assert.deepEqual(totals, { held: held(60000000000n, 0n, 2n ** 64n - 1n), rows: 13 });
+    const { number, row, column } = library.addWall(totals, table, wall);
+    assert.deepEqual([number, row, column], [12, 0, 0]);
+});
+
+test("totals, a wall and a row of another kind are a TypeError that names them", () => {
+    const { table, totals } = onSite();
+    const right = { start: [totals, table], addWall: [totals, table, wall], deleteWall: [totals, table, 6] };
+    const wrong = (method, index, value, message) => {
+        const words = right[method].map((word, each) => (each === index ? value : word));
+        assert.throws(() => library[method](...words), { name: "TypeError", message: `${method}: the ${message}` });
+    };
+    for (const method of Object.keys(right)) {
+        wrong(method, 0, undefined, "totals.held must be a BigUint64Array, not nothing");
+        wrong(method, 0, { held: Array(6).fill(0n), rows: 12 }, "totals.held must be a BigUint64Array, not a value of type Array");
+        wrong(method, 0, { held: new BigUint64Array(5), rows: 12 }, "totals.held must have 6 numbers, not 5");
+        for (const rows of [-1, 1.5, 2 ** 32, NaN]) {
+            wrong(method, 0, { ...totals, rows }, `totals.rows must be a whole number of 32 bits, not ${rows}`);
+        }
+        wrong(method, 0, { ...totals, rows: 12n }, "totals.rows must be a whole number of 32 bits, not a value of type BigInt");
+        wrong(method, 1, [1], "table must be a Uint32Array, not a value of type Array");
+    }
+    wrong("addWall", 2, [...wall], "wall must be a Uint32Array, not a value of type Array");
+    for (const length of [0, 7, 9]) {
+        wrong("addWall", 2, new Uint32Array(length), `wall must have 8 numbers, not ${length}`);
+    }
+    for (const row of [-1, 0.5, 2 ** 32]) {
+        wrong("deleteWall", 2, row, `row must be a whole number of 32 bits, not ${row}`);
+    }
+    wrong("deleteWall", 2, "6", "row must be a whole number of 32 bits, not a value of type String");
+    assert.deepEqual([table, totals], [onSite().table, onSite().totals]);
+});
+
 test("only what is lent is filled, wherever it stands", () => {
     const numbers = new Uint32Array(108).fill(7);
     assert.equal(library.read(sheet, numbers.subarray(5, 101)).count, 12);
@@ -164,12 +261,16 @@ test("memory grows with what is given and what is lent", async () => {
     const numbers = new Uint32Array(5_000_000);
     const house = tableOf(sheet);
     const refusedWhole = { number: 1, row: 0, column: 0, count: 0 };
+    const totals = { held: new BigUint64Array(6), rows: 12 };
     const calls = [
         [(fresh) => fresh.read(bytes, new Uint32Array(1)), refusedWhole],
         [(fresh) => fresh.diagnose(bytes).number, 1],
         [(fresh) => fresh.score(numbers).number, 1],
         [(fresh) => fresh.read(sheet, numbers), { ...accepted, count: 12 }],
         [(fresh) => fresh.writeReport(house, bytes), { ...accepted, count: 195 }],
+        [(fresh) => fresh.start(totals, numbers).scores[0], 47],
+        [(fresh) => fresh.addWall(totals, numbers, wall).scores[0], 68],
+        [(fresh) => fresh.deleteWall(totals, numbers, 11).scores[0], 47],
     ];
     for (const [call, answer] of calls) assert.deepEqual(call(await load(wasm)), answer);
     assert.equal(text(bytes.subarray(0, 196)), report + " ");

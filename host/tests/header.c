@@ -53,6 +53,27 @@ static const struct record p1_record = {
     {384000000000, 384000000000, 0, 0, 0, 0},
 };
 
+/* P1 with its first wall twice, and then without its window too. */
+static const struct record added_record = {
+    {68, 83, 0, 0, 0, 0},
+    2,
+    4,
+    1,
+    {68, 83, 0, 0, 0, 0},
+    {288000000000, 128000000000, 0, 0, 0, 0},
+    {384000000000, 384000000000, 0, 0, 0, 0},
+};
+
+static const struct record deleted_record = {
+    {62, 83, 0, 0, 0, 0},
+    2,
+    4,
+    1,
+    {62, 83, 0, 0, 0, 0},
+    {192000000000, 128000000000, 0, 0, 0, 0},
+    {384000000000, 384000000000, 0, 0, 0, 0},
+};
+
 /* P1 on a hundredth of its area: both scores are at their limit. */
 static const struct record small_record = {
     {999, 999, 0, 0, 0, 0},
@@ -182,6 +203,18 @@ static void compare_scoring(const char *of_what, girderbasil_scoring told, uint3
         compare(of_what, "remainder", told.remainders[each], due.remainders[each]);
         compare(of_what, "divisor", told.divisors[each], due.divisors[each]);
     }
+}
+
+/* What is held in the ground storey, and nothing in another. */
+static void compare_totals(const char *of_what, girderbasil_totals kept, uint64_t x, uint64_t y, uint32_t in_use)
+{
+    size_t each;
+
+    compare(of_what, "total of X", kept.held[0], x);
+    compare(of_what, "total of Y", kept.held[1], y);
+    for (each = 2; each < 6; each++)
+        compare(of_what, "total of a storey above", kept.held[each], 0);
+    compare(of_what, "count of rows in use", kept.rows, in_use);
 }
 
 /* What is printed for a sheet: the fields, the bytes from the front, and 0 in every byte after them. */
@@ -395,6 +428,41 @@ static void try_printed(void)
                    "       0       1       0       0       0       0       0       0\n");
 }
 
+/* P1's first wall once more takes row 11. */
+static void try_changes(void)
+{
+    static const uint32_t zeros[COLUMNS] = {0};
+    girderbasil_totals totals;
+    size_t numbers = 13 * COLUMNS;
+
+    make_p1();
+    memset(&totals, 9, sizeof totals);
+    totals.rows = 12;
+    compare_scoring("P1, started", girderbasil_start(&totals, table, numbers), 0, 0, 0, p1_record);
+    compare_totals("P1, started", totals, 9200000, 16000000, 12);
+
+    compare_scoring("a wall added", girderbasil_add_wall(&totals, table, numbers, p1[4]), 0, 0, 0, added_record);
+    compare_totals("a wall added", totals, 13200000, 16000000, 13);
+    compare_bytes("a wall added", table, p1, 10 * sizeof p1[0]);
+    compare_bytes("a wall added, its row", table + 10 * COLUMNS, p1[4], sizeof p1[4]);
+    compare_bytes("a wall added, the rows after it", table + 11 * COLUMNS, p1[10], 2 * sizeof p1[0]);
+    compare_scoring("a wall for which no row is left", girderbasil_add_wall(&totals, table, numbers, p1[4]),
+                    GIRDERBASIL_LENT_SPACE_SHORT, 0, 0, no_record);
+
+    compare_scoring("the ends, deleted", girderbasil_delete_wall(&totals, table, numbers, 4),
+                    GIRDERBASIL_NO_SUCH_WALL, 4, 0, no_record);
+    compare_scoring("a wall deleted", girderbasil_delete_wall(&totals, table, numbers, 6), 0, 0, 0, deleted_record);
+    compare_totals("a wall deleted", totals, 12000000, 16000000, 12);
+    compare_bytes("a wall deleted", table, p1, 5 * sizeof p1[0]);
+    compare_bytes("a wall deleted, the rows after it", table + 5 * COLUMNS, p1[6], 4 * sizeof p1[0]);
+    compare_bytes("a wall deleted, the last row", table + 12 * COLUMNS, zeros, sizeof zeros);
+
+    make_house(1, GIRDERBASIL_MOST_WALLS);
+    totals.rows = (uint32_t)rows;
+    compare_scoring("the 301st wall", girderbasil_add_wall(&totals, table, ROOM * COLUMNS, p1[4]),
+                    GIRDERBASIL_TOO_MANY_WALLS, 305, 1, no_record);
+}
+
 int main(void)
 {
     try_p1();
@@ -405,5 +473,6 @@ int main(void)
     try_most_rows();
     try_most_report_bytes();
     try_printed();
+    try_changes();
     return differences == 0 ? 0 : 1;
 }

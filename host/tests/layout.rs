@@ -8,6 +8,7 @@ use std::process::Command;
 
 use common::header;
 use girderbasil_host::library::raw;
+use girderbasil_host::site::Totals;
 use girderbasil_host::{LINE, MOST_REPORT_BYTES, MOST_ROWS, MOST_WALLS, ROW};
 
 /// A struct's size, and where its fields begin, as [`header::layouts`] has them.
@@ -26,6 +27,7 @@ fn layouts_in_rust() -> Vec<String> {
     layouts.extend(layout!("girderbasil_scoring", raw::Scoring:
         number row column scores count verdict started_by_31_may_1981 hundredths remainders divisors));
     layouts.extend(layout!("girderbasil_output", raw::Output: number row column count bytes));
+    layouts.extend(layout!("girderbasil_totals", Totals: held rows));
     layouts
 }
 
@@ -43,7 +45,7 @@ fn sizes_in_rust() -> Vec<String> {
 #[test]
 fn rust_has_the_layouts_of_the_header() {
     let asserted = header::layouts();
-    assert!(asserted.len() >= 22, "{asserted:?}");
+    assert!(asserted.len() >= 25, "{asserted:?}");
     assert_eq!(layouts_in_rust(), asserted);
 }
 
@@ -71,7 +73,7 @@ fn the_header_asserts_every_field() {
     let fields = header::HEADER
         .lines()
         .filter(|line| line.starts_with("    uint") && line.contains(';'));
-    let structs = header::HEADER.matches("typedef struct {").count();
+    let structs = header::HEADER.matches("typedef struct ").count();
     assert_eq!(header::layouts().len(), fields.count() + structs);
 }
 

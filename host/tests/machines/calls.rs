@@ -404,5 +404,5 @@ fn under_node_the_javascript_passes_its_own_tests() {
     assert!(output.status.success(), "{printed}");
     let mut counts = printed.lines();
     let passed = counts.find_map(|line| line.strip_prefix("# pass ")?.parse().ok());
-    assert!(passed >= Some(16), "{passed:?} of them");
+    assert!(passed >= Some(20), "{passed:?} of them");
 }
