@@ -1,8 +1,9 @@
-//! Pseudo-random houses and sheets, and damage to them, the same in every run.
+//! Pseudo-random houses and sheets, damage to them, and changes on site, the same in every run.
 
 pub mod damage;
 pub mod dates;
 pub mod house;
+pub mod site;
 
 /// A splitmix64 generator: what it draws follows from its seed alone.
 #[derive(Debug, Clone)]

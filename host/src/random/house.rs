@@ -247,7 +247,8 @@ fn usual_walls(random: &mut Random, place: [u32; 3], area: u32) -> Vec<u32> {
     walls
 }
 
-fn extreme_wall(random: &mut Random, storey: u32) -> [u32; 8] {
+/// A wall of a storey, its numbers often at the ends of their ranges.
+pub fn extreme_wall(random: &mut Random, storey: u32) -> [u32; 8] {
     let strength = match random.below(3) {
         0 => random.between(1, 300),
         _ => random.pick(&STRENGTHS),

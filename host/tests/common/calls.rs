@@ -4,12 +4,13 @@
 use girderbasil_host::answers::{Record, Refusal};
 use girderbasil_host::library::raw;
 use girderbasil_host::random::Random;
+use girderbasil_host::site::{Change, Totals};
 use girderbasil_host::{LINE, MOST_REPORT_BYTES, MOST_ROWS, ROW, model};
 
 use super::lent::{Lent, lent_length};
 
-/// How many numbers an answer may begin with: a refusal's, up to 11, or 0.
-pub const NUMBERS: usize = 12;
+/// How many numbers an answer may begin with: a refusal's, up to 12, or 0.
+pub const NUMBERS: usize = 13;
 
 /// The refusals that parts alone get, by number and column.
 pub const PARTS_REFUSALS: [(u32, u32); 2] = [(7, 3), (8, 2)];
@@ -60,22 +61,8 @@ impl Score {
         }
     }
 
-    /// A refused table's record is all 0.
     pub fn answer(&self) -> raw::Scoring {
-        let (number, row, column) = refusal_fields(self.expected.as_ref().err());
-        let record = self.expected.unwrap_or_default();
-        raw::Scoring {
-            number,
-            row,
-            column,
-            scores: record.scores,
-            count: record.count,
-            verdict: record.verdict,
-            started_by_31_may_1981: record.started_by_31_may_1981,
-            hundredths: record.hundredths,
-            remainders: record.remainders,
-            divisors: record.divisors,
-        }
+        raw_scoring(&self.expected)
     }
 }
 
@@ -141,6 +128,55 @@ impl Diagnose {
             count: self.printed.len() as u32,
             bytes,
         }
+    }
+}
+
+/// `girderbasil_start`, `girderbasil_add_wall` or `girderbasil_delete_wall`.
+pub struct OnSite {
+    pub change: Change,
+    pub table: Lent<u32>,
+    pub totals: Totals,
+    pub expected: Result<Record, Refusal>,
+    pub table_after: Vec<u32>,
+    pub totals_after: Totals,
+}
+
+impl OnSite {
+    pub fn new(random: &mut Random, lent: &[u32], totals: Totals, change: Change) -> Self {
+        let (mut lent_after, mut totals_after) = (lent.to_vec(), totals);
+        let expected = model::site::change(&mut totals_after, &mut lent_after, &change);
+        let table = Lent::copy_of(random, lent, Random::numbers);
+        let table_after = table.after_writing(&lent_after);
+        Self {
+            change,
+            table,
+            totals,
+            expected,
+            table_after,
+            totals_after,
+        }
+    }
+
+    pub fn answer(&self) -> raw::Scoring {
+        raw_scoring(&self.expected)
+    }
+}
+
+/// A record or a refusal as it crosses. Where it is a refusal the record is all 0.
+pub fn raw_scoring(scored: &Result<Record, Refusal>) -> raw::Scoring {
+    let (number, row, column) = refusal_fields(scored.as_ref().err());
+    let record = scored.unwrap_or_default();
+    raw::Scoring {
+        number,
+        row,
+        column,
+        scores: record.scores,
+        count: record.count,
+        verdict: record.verdict,
+        started_by_31_may_1981: record.started_by_31_may_1981,
+        hundredths: record.hundredths,
+        remainders: record.remainders,
+        divisors: record.divisors,
     }
 }
 
