@@ -7,13 +7,56 @@ import { LAYOUTS, MOST_REPORT_BYTES, load } from "../../web/girderbasil.js";
 
 const { girderbasil_answer, girderbasil_scoring, girderbasil_output } = LAYOUTS;
 
-// Each function: its method in web/girderbasil.js, what it reads, what it fills, the bytes of its answer's struct, and of
-// the struct's fields.
+// A struct that functions answer: its size, and the bytes of its fields.
+const ANSWER = { size: girderbasil_answer.size, fields: 16 };
+const SCORING = { size: girderbasil_scoring.size, fields: 192 };
+const OUTPUT = { size: girderbasil_output.size, fields: 16 + MOST_REPORT_BYTES };
+
+// Each function: what it answers; what it only reads and what it fills or changes; what follows the answer's place among
+// the words of its export, from the words of its parts; and its call in web/girderbasil.js, from its parts.
 const FUNCTIONS = {
-    girderbasil_read: ["read", Uint8Array, Uint32Array, girderbasil_answer.size, 16],
-    girderbasil_score: ["score", Uint32Array, undefined, girderbasil_scoring.size, 192],
-    girderbasil_write_report: ["writeReport", Uint32Array, Uint8Array, girderbasil_answer.size, 16],
-    girderbasil_diagnose: ["diagnose", Uint8Array, undefined, girderbasil_output.size, 16 + MOST_REPORT_BYTES],
+    girderbasil_read: {
+        answer: ANSWER,
+        kinds: [Uint8Array, Uint32Array],
+        words: (sheet, table) => [...sheet, ...table],
+        wrapped: (library, sheet, table) => library.read(sheet, table),
+    },
+    girderbasil_score: {
+        answer: SCORING,
+        kinds: [Uint32Array],
+        words: (table) => table,
+        wrapped: (library, table) => library.score(table),
+    },
+    girderbasil_write_report: {
+        answer: ANSWER,
+        kinds: [Uint32Array, Uint8Array],
+        words: (table, report) => [...table, ...report],
+        wrapped: (library, table, report) => library.writeReport(table, report),
+    },
+    girderbasil_diagnose: {
+        answer: OUTPUT,
+        kinds: [Uint8Array],
+        words: (sheet) => sheet,
+        wrapped: (library, sheet) => library.diagnose(sheet),
+    },
+    girderbasil_start: {
+        answer: SCORING,
+        kinds: [Uint32Array],
+        words: (table, _, [totals]) => [totals, ...table],
+        wrapped: (library, table, _, totals) => library.start(totals, table),
+    },
+    girderbasil_add_wall: {
+        answer: SCORING,
+        kinds: [Uint32Array, Uint32Array],
+        words: ([wall], table, [totals]) => [totals, ...table, wall],
+        wrapped: (library, wall, table, totals) => library.addWall(totals, table, wall),
+    },
+    girderbasil_delete_wall: {
+        answer: SCORING,
+        kinds: [Uint32Array, Uint32Array],
+        words: (_, table, [totals], [row]) => [totals, ...table, row],
+        wrapped: (library, [row], table, totals) => library.deleteWall(totals, table, row),
+    },
 };
 
 const input = readFileSync(0);
@@ -47,38 +90,55 @@ function bytesOf(numbers) {
     return new Uint8Array(Kind.from(numbers).buffer);
 }
 
-// Calls a method of web/girderbasil.js; the buffers are changed, or not, by it.
-function callWrapped(library, [method, , Filled], given, lent) {
-    const answer = Filled === undefined ? library[method](given.lent) : library[method](given.lent, lent.lent);
+// Calls web/girderbasil.js; the buffers are changed, or not, by it. Totals are six elements and, in a seventh, the rows.
+function callWrapped(library, { wrapped }, parts) {
+    const [given, filled, totals] = parts.map(({ lent }) => lent);
+    const onSite = { held: totals.subarray(0, 6), rows: Number(totals[6] ?? 0) };
+    const answer = wrapped(library, given, filled, onSite);
+    if (totals.length > 0) totals[6] = BigInt(onSite.rows);
     return fieldsOf(answer);
 }
 
 const GUARD = 64;
 const FILLING = 0xa5;
 
-// Calls an export. What it reads stands before what it fills, which ends where the memory does; the answer has bytes
-// before and after it that must stay.
-function callExport(exports, name, [, , Filled, size, fields], given, lent) {
-    const answer = Math.ceil(exports.__heap_base.value / 8) * 8 + GUARD;
-    const from = Math.ceil((answer + size + GUARD) / 8) * 8;
-    const missing = from + given.buffer.byteLength + lent.buffer.byteLength - exports.memory.buffer.byteLength;
-    if (missing > 0) exports.memory.grow(Math.ceil(missing / 65536));
+// The next address that is aligned for every element.
+function aligned(address) {
+    return Math.ceil(address / 8) * 8;
+}
+
+// Where each part's buffer begins: after another, the one that is filled or changed where the memory ends.
+function placesOf(memory, from, [given, filled, totals]) {
+    const afterGiven = aligned(from + given.buffer.byteLength);
+    const end = afterGiven + totals.buffer.byteLength + filled.buffer.byteLength;
+    const missing = end - memory.buffer.byteLength;
+    if (missing > 0) memory.grow(Math.ceil(missing / 65536));
+    return [from, memory.buffer.byteLength - filled.buffer.byteLength, afterGiven];
+}
+
+// Calls an export. The answer has bytes before and after it that must stay.
+function callExport(exports, name, { answer: { size, fields }, words }, parts) {
+    const answer = aligned(exports.__heap_base.value) + GUARD;
+    const addresses = placesOf(exports.memory, aligned(answer + size + GUARD), parts);
     const memory = new Uint8Array(exports.memory.buffer);
-    const to = memory.length - lent.buffer.byteLength;
     const guarded = memory.subarray(answer - GUARD, answer + size + GUARD).fill(FILLING);
-    const places = [[given, from], [lent, to]].map(([part, address]) => {
-        const place = memory.subarray(address, address + part.buffer.byteLength);
-        place.set(new Uint8Array(part.buffer.buffer));
-        const start = part.buffer.length === 0 ? 0 : address + part.before * part.buffer.BYTES_PER_ELEMENT;
-        return { part, place, words: [start, BigInt(part.length)] };
+    const places = parts.map(({ buffer, before, length }, each) => {
+        const address = addresses[each];
+        const place = memory.subarray(address, address + buffer.byteLength);
+        place.set(new Uint8Array(buffer.buffer));
+        const start = buffer.length === 0 ? 0 : address + before * buffer.BYTES_PER_ELEMENT;
+        return { buffer, place, words: [start, BigInt(length)] };
     });
 
-    exports[name](answer, ...places[0].words, ...(Filled === undefined ? [] : places[1].words));
+    exports[name](answer, ...words(...places.map((each) => each.words), parts[0].lent));
 
     if ([...guarded.subarray(0, GUARD), ...guarded.subarray(-GUARD)].some((byte) => byte !== FILLING)) {
         throw new Error(`${name} wrote beside its answer`);
     }
-    for (const { part, place } of places) new Uint8Array(part.buffer.buffer).set(place);
+    for (const { buffer, place } of places) new Uint8Array(buffer.buffer).set(place);
+    // What fills the totals' struct up is no field, and what it is after a call says nothing.
+    const totals = parts[2].lent;
+    if (totals.length > 0) totals[6] &= 0xffffffffn;
     return memory.slice(answer, answer + fields);
 }
 
@@ -90,13 +150,13 @@ while (at < input.length) {
     const name = take(32).toString("latin1").replace(/\0+$/, "");
     const described = FUNCTIONS[name];
     if (described === undefined) throw new Error(`there is no function ${name}`);
-    const given = takePart(described[1]);
-    const lent = takePart(described[2]);
+    const [Given, Filled] = described.kinds;
+    const parts = [takePart(Given), takePart(Filled), takePart(BigUint64Array)];
     answers.push(
         process.argv[3] === "wrapped"
-            ? callWrapped(library, described, given, lent)
-            : callExport(exports, name, described, given, lent),
+            ? callWrapped(library, described, parts)
+            : callExport(exports, name, described, parts),
     );
-    for (const { buffer } of [given, lent]) answers.push(new Uint8Array(buffer.buffer));
+    for (const { buffer } of parts) answers.push(new Uint8Array(buffer.buffer));
 }
 process.stdout.write(Buffer.concat(answers));

@@ -4,10 +4,13 @@ use std::process::Command;
 
 use girderbasil_host::answers::Record;
 use girderbasil_host::library::raw;
-use girderbasil_host::random::{Random, damage, house};
+use girderbasil_host::random::{Random, damage, house, site};
+use girderbasil_host::site::{Change, Totals};
 use girderbasil_host::{MOST_ROWS, ROW, model};
 
-use crate::common::calls::{DATES_REFUSALS, Diagnose, PARTS_REFUSALS, Read, Score, WriteReport};
+use crate::common::calls::{
+    DATES_REFUSALS, Diagnose, OnSite, PARTS_REFUSALS, Read, Score, WriteReport,
+};
 use crate::common::header;
 use crate::common::lent::Lent;
 use crate::{ARM64, X86_64, common, module, program, script};
@@ -83,53 +86,67 @@ fn put_part<T: Element>(lent: &Lent<T>, bytes: &mut Vec<u8>) {
 }
 
 impl Call {
-    /// A call that fills nothing.
-    fn reading<T: Element>(met: Met, given: &Lent<T>, answer: Vec<u8>) -> Self {
-        let nothing = Lent::<u8> {
-            buffer: vec![],
-            range: 0..0,
-        };
-        Self::filling(met, given, &nothing, &[], answer)
-    }
-
-    fn filling<T: Element, U: Element>(
-        met: Met,
-        given: &Lent<T>,
-        lent: &Lent<U>,
-        lent_after: &[U],
-        answer: Vec<u8>,
-    ) -> Self {
+    /// A call without its three parts yet.
+    fn of(met: Met, answer: Vec<u8>) -> Self {
         let mut asked = met.function.as_bytes().to_vec();
         asked.resize(32, 0);
-        put_part(given, &mut asked);
-        put_part(lent, &mut asked);
-        let mut expected = answer;
-        put_all(&given.buffer, &mut expected);
-        put_all(lent_after, &mut expected);
         Self {
             met,
             asked,
-            expected,
+            expected: answer,
         }
+    }
+
+    /// The next part, with what its buffer holds after the call.
+    fn changing<T: Element>(mut self, lent: &Lent<T>, after: &[T]) -> Self {
+        put_part(lent, &mut self.asked);
+        put_all(after, &mut self.expected);
+        self
+    }
+
+    fn reading<T: Element>(self, lent: &Lent<T>) -> Self {
+        self.changing(lent, &lent.buffer)
+    }
+
+    fn without(self) -> Self {
+        self.reading(&Lent::<u8> {
+            buffer: vec![],
+            range: 0..0,
+        })
     }
 
     /// Any call: of any function, for a house that may be damaged in its table or its sheet.
     fn any(random: &mut Random) -> Self {
-        if random.chance(50) {
-            let sheet = common::any_sheet(random);
-            if random.chance(50) {
-                Self::read(&Read::new(random, &sheet))
-            } else {
-                Self::diagnose(&Diagnose::new(random, &sheet))
+        match random.below(7) {
+            which @ 0..=1 => {
+                let sheet = common::any_sheet(random);
+                if which == 0 {
+                    Self::read(&Read::new(random, &sheet))
+                } else {
+                    Self::diagnose(&Diagnose::new(random, &sheet))
+                }
             }
-        } else {
-            let table = damage::any_table(random);
-            if random.chance(50) {
-                Self::score(&Score::new(random, &table))
-            } else {
-                Self::write_report(&WriteReport::new(random, &table))
+            which @ 2..=3 => {
+                let table = damage::any_table(random);
+                if which == 2 {
+                    Self::score(&Score::new(random, &table))
+                } else {
+                    Self::write_report(&WriteReport::new(random, &table))
+                }
             }
+            _ => Self::any_on_site(random),
         }
+    }
+
+    fn any_on_site(random: &mut Random) -> Self {
+        let (lent, totals) = site::lent_and_totals(random);
+        let change = match random.below(3) {
+            0 => Change::Start,
+            1 => Change::Add(site::wall(random, &lent)),
+            _ => Change::Delete(site::row(random, &lent, &totals)),
+        };
+        let call = OnSite::new(random, &lent, totals, change);
+        Self::on_site(random, &call)
     }
 
     fn read(call: &Read) -> Self {
@@ -144,8 +161,10 @@ impl Call {
             state: None,
             record: None,
         };
-        let bytes = answer_bytes(answer);
-        Self::filling(met, &call.sheet, &call.table, &call.table_after, bytes)
+        Self::of(met, answer_bytes(answer))
+            .reading(&call.sheet)
+            .changing(&call.table, &call.table_after)
+            .without()
     }
 
     fn score(call: &Score) -> Self {
@@ -162,15 +181,10 @@ impl Call {
             state: state_of(call.table.slice()),
             record: call.expected.ok(),
         };
-        let mut bytes = vec![];
-        put_all(&[answer.number, answer.row, answer.column], &mut bytes);
-        put_all(&answer.scores, &mut bytes);
-        put_all(&[answer.count, answer.verdict], &mut bytes);
-        put_all(&[answer.started_by_31_may_1981], &mut bytes);
-        for six in [answer.hundredths, answer.remainders, answer.divisors] {
-            put_all(&six, &mut bytes);
-        }
-        Self::reading(met, &call.table, bytes)
+        Self::of(met, scoring_bytes(&answer))
+            .reading(&call.table)
+            .without()
+            .without()
     }
 
     fn write_report(call: &WriteReport) -> Self {
@@ -185,8 +199,10 @@ impl Call {
             state: written.and_then(|_| state_of(call.table.slice())),
             record: None,
         };
-        let bytes = answer_bytes(answer);
-        Self::filling(met, &call.table, &call.report, &call.report_after, bytes)
+        Self::of(met, answer_bytes(answer))
+            .reading(&call.table)
+            .changing(&call.report, &call.report_after)
+            .without()
     }
 
     fn diagnose(call: &Diagnose) -> Self {
@@ -206,8 +222,64 @@ impl Call {
         put_all(&[answer.number, answer.row, answer.column], &mut bytes);
         put_all(&[answer.count], &mut bytes);
         put_all(&answer.bytes, &mut bytes);
-        Self::reading(met, &call.sheet, bytes)
+        Self::of(met, bytes)
+            .reading(&call.sheet)
+            .without()
+            .without()
     }
+
+    fn on_site(random: &mut Random, call: &OnSite) -> Self {
+        let answer = call.answer();
+        let table = call.table.slice();
+        let rows = table.get(..ROW * call.totals.rows as usize);
+        let met = Met {
+            function: match call.change {
+                Change::Start => "girderbasil_start",
+                Change::Add(_) => "girderbasil_add_wall",
+                Change::Delete(_) => "girderbasil_delete_wall",
+            },
+            number: answer.number,
+            column: answer.column,
+            left: None,
+            snow: call.expected.ok().map(|_| house::snow_of(table)),
+            state: rows.and_then(state_of),
+            record: call.expected.ok(),
+        };
+        let bare = Self::of(met, scoring_bytes(&answer));
+        let with_table = match call.change {
+            Change::Start => bare.reading(&call.table).without(),
+            Change::Add(wall) => bare
+                .reading(&Lent::copy_of(random, &wall, Random::numbers))
+                .changing(&call.table, &call.table_after),
+            Change::Delete(row) => bare
+                .reading(&Lent::copy_of(random, &[row], Random::numbers))
+                .changing(&call.table, &call.table_after),
+        };
+        let totals = Lent::copy_of(random, &elements_of(&call.totals), |random, count| {
+            (0..count).map(|_| random.draw()).collect()
+        });
+        let totals_after = totals.after_writing(&elements_of(&call.totals_after));
+        with_table.changing(&totals, &totals_after)
+    }
+}
+
+/// Totals as they cross: seven elements of 64 bits, with nothing in what fills the struct up.
+fn elements_of(totals: &Totals) -> Vec<u64> {
+    let mut elements = totals.held.to_vec();
+    elements.push(totals.rows.into());
+    elements
+}
+
+fn scoring_bytes(answer: &raw::Scoring) -> Vec<u8> {
+    let mut bytes = vec![];
+    put_all(&[answer.number, answer.row, answer.column], &mut bytes);
+    put_all(&answer.scores, &mut bytes);
+    put_all(&[answer.count, answer.verdict], &mut bytes);
+    put_all(&[answer.started_by_31_may_1981], &mut bytes);
+    for six in [answer.hundredths, answer.remainders, answer.divisors] {
+        put_all(&six, &mut bytes);
+    }
+    bytes
 }
 
 /// The age and repair of a house; nothing where it is refused.
@@ -228,8 +300,19 @@ fn answer_bytes(answer: raw::Answer) -> Vec<u8> {
     bytes
 }
 
-/// The functions that are called, each with the numbers that it may answer with and whether it fills something.
-const FUNCTIONS: [(&str, &[usize], bool); 4] = [
+/// The functions that are called, each with the numbers that it may answer with and whether it fills something from its
+/// front.
+const FUNCTIONS: [(&str, &[usize], bool); 7] = [
+    (
+        "girderbasil_add_wall",
+        &[0, 1, 3, 4, 5, 6, 7, 8, 9, 10, 11, 12],
+        false,
+    ),
+    (
+        "girderbasil_delete_wall",
+        &[0, 1, 3, 4, 5, 6, 7, 8, 10, 11, 12],
+        false,
+    ),
     (
         "girderbasil_diagnose",
         &[0, 1, 2, 3, 4, 5, 6, 7, 8, 10, 11],
@@ -238,6 +321,11 @@ const FUNCTIONS: [(&str, &[usize], bool); 4] = [
     ("girderbasil_read", &[0, 1, 2, 9], true),
     (
         "girderbasil_score",
+        &[0, 1, 3, 4, 5, 6, 7, 8, 10, 11],
+        false,
+    ),
+    (
+        "girderbasil_start",
         &[0, 1, 3, 4, 5, 6, 7, 8, 10, 11],
         false,
     ),
