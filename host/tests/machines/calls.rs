@@ -15,7 +15,7 @@ use crate::common::header;
 use crate::common::lent::Lent;
 use crate::{ARM64, X86_64, common, module, program, script};
 
-const CALLS: usize = 50_000;
+const CALLS: usize = 90_000;
 /// As many calls go to a program at a time.
 const BATCH: usize = 1_000;
 
