@@ -3,9 +3,10 @@
 use std::hint::black_box;
 use std::time::{Duration, Instant};
 
+use girderbasil_host::library::Site;
 use girderbasil_host::model::{report, score, sheet};
 use girderbasil_host::random::{Random, house};
-use girderbasil_host::{MOST_REPORT_BYTES, MOST_ROWS, ROW, library, worked};
+use girderbasil_host::{MOST_REPORT_BYTES, MOST_ROWS, MOST_WALLS, ROW, library, worked};
 
 /// The two are timed in turn, this often, and the best round of each counts: what else the machine does can only
 /// make a round slower.
@@ -51,6 +52,7 @@ fn main() {
     );
     print_times("Sheet to report", &lines, time_report);
     print_times("Table to record", &lines, time_record);
+    print_changes();
 }
 
 fn lines() -> Vec<Line> {
@@ -191,4 +193,87 @@ fn round(call: &mut impl FnMut(), calls: usize) -> f64 {
         call();
     }
     start.elapsed().as_nanos() as f64 / calls as f64
+}
+
+/// A house on site that lacks one wall of as many as it may have.
+struct OnSite {
+    site: Site,
+    wall: [u32; ROW],
+    /// The row that the wall takes, counted from 1.
+    row: u32,
+}
+
+/// A house of as many walls as there may be, from which one was deleted, the last of its storey, so that it takes the same
+/// row when it is added.
+fn on_site(random: &mut Random, storeys: u32) -> OnSite {
+    let table = house::with_walls(random, storeys, MOST_WALLS as u32);
+    let rows = table.as_chunks::<ROW>().0;
+    let storey = random.between(1, storeys);
+    let index = rows.iter().rposition(|row| row[..2] == [4, storey]);
+    let index = index.expect("each storey of so many walls has one");
+    let row = index as u32 + 1;
+    let (mut site, _) = Site::start(&table).expect("a house is accepted");
+    site.delete_wall(row).expect("it has the wall");
+    OnSite {
+        site,
+        wall: rows[index],
+        row,
+    }
+}
+
+/// Prints what one addition and one deletion take, each beside the scoring of the table with all its walls.
+fn print_changes() {
+    println!(
+        "\n{:<38}{:>10}{:>10}{:>8}",
+        format!("A change on {MOST_WALLS} walls, library"),
+        "change",
+        "scoring",
+        "ratio"
+    );
+    let mut random = Random::new(36);
+    for (name, storeys) in [("two storeys", 2), ("three storeys", 3)] {
+        let houses = 0..WALLS as usize / MOST_WALLS;
+        let mut houses: Vec<OnSite> = houses.map(|_| on_site(&mut random, storeys)).collect();
+        let [addition, scoring, deletion] = time_changes(&mut houses);
+        for (change, time) in [("an addition", addition), ("a deletion", deletion)] {
+            let name = format!("{name}, {change}");
+            let ratio = time / scoring;
+            println!("{name:<38}{time:>10.0}{scoring:>10.0}{ratio:>8.2}");
+        }
+    }
+}
+
+/// Nanoseconds an addition, a scoring and a deletion, the best round of each. They go through all houses in turn, so that
+/// after each turn every house is as it was.
+fn time_changes(houses: &mut [OnSite]) -> [f64; 3] {
+    let calls: [fn(&mut OnSite); 3] = [
+        |house| {
+            let wall = black_box(&house.wall);
+            black_box(house.site.add_wall(wall).expect("it is accepted"));
+        },
+        |house| {
+            black_box(library::score(black_box(house.site.table())).expect("it is accepted"));
+        },
+        |house| {
+            let row = black_box(house.row);
+            black_box(house.site.delete_wall(row).expect("it is accepted"));
+        },
+    ];
+    let mut best = [f64::INFINITY; 3];
+    for _ in 0..ROUNDS {
+        let mut spent = [Duration::ZERO; 3];
+        let mut timed = 0;
+        while spent.iter().sum::<Duration>() < 3 * ROUND {
+            for (spent, call) in spent.iter_mut().zip(calls) {
+                let start = Instant::now();
+                houses.iter_mut().for_each(call);
+                *spent += start.elapsed();
+            }
+            timed += houses.len();
+        }
+        for (best, spent) in best.iter_mut().zip(spent) {
+            *best = best.min(spent.as_nanos() as f64 / timed as f64);
+        }
+    }
+    best
 }
