@@ -22,9 +22,14 @@ static uint32_t table[GIRDERBASIL_MOST_ROWS * GIRDERBASIL_ROW];
 static size_t table_length;
 static uint8_t report[GIRDERBASIL_MOST_REPORT_BYTES];
 
+/* The first wall of the table and its row, counted from 1, after the house, the storeys and their ends. */
+static uint32_t wall[GIRDERBASIL_ROW];
+static uint32_t wall_row;
+static girderbasil_totals totals;
+
 /* Answers are kept where they take no stack. */
 static girderbasil_answer answer;
-static girderbasil_scoring scoring;
+static girderbasil_scoring scoring, started, added, deleted;
 static girderbasil_output output;
 
 static void call_nothing(void)
@@ -50,6 +55,28 @@ static void call_write_report(void)
 static void call_diagnose(void)
 {
     output = girderbasil_diagnose(sheet, sheet_length);
+}
+
+static void call_start(void)
+{
+    started = girderbasil_start(&totals, table, table_length);
+}
+
+static void call_add_wall(void)
+{
+    added = girderbasil_add_wall(&totals, table, table_length, wall);
+}
+
+static void call_delete_wall(void)
+{
+    deleted = girderbasil_delete_wall(&totals, table, table_length, wall_row);
+}
+
+static void take_first_wall(void)
+{
+    wall_row = 2 + 3 * table[1];
+    memcpy(wall, table + (wall_row - 1) * GIRDERBASIL_ROW, sizeof wall);
+    totals.rows = (uint32_t)(table_length / GIRDERBASIL_ROW);
 }
 
 static size_t stack_of(void (*call)(void))
@@ -82,5 +109,15 @@ int main(void)
     printf("girderbasil_score %zu\n", stack_of(call_score) - nothing);
     printf("girderbasil_write_report %zu\n", stack_of(call_write_report) - nothing);
     printf("girderbasil_diagnose %zu\n", stack_of(call_diagnose) - nothing);
-    return scoring.number == 0 && answer.number == 0 && output.number == 0 ? 0 : 1;
+
+    /* These change the table that was read. There is room for a wall once one is deleted. */
+    take_first_wall();
+    call_start();
+    call_delete_wall();
+    call_add_wall();
+    call_delete_wall();
+    printf("girderbasil_start %zu\n", stack_of(call_start) - nothing);
+    printf("girderbasil_add_wall %zu\n", stack_of(call_add_wall) - nothing);
+    printf("girderbasil_delete_wall %zu\n", stack_of(call_delete_wall) - nothing);
+    return scoring.number + answer.number + output.number + started.number + added.number + deleted.number == 0 ? 0 : 1;
 }
