@@ -237,8 +237,8 @@ fn the_refusals_of_the_document_are_told_and_explained() {
             continue;
         };
         numbers.push(number);
-        // The program lends room for every report, so it never tells 9.
-        if number == 9 {
+        // The program lends room for every report, so it never tells 9, and it deletes and adds no wall, so never 12.
+        if matches!(number, 9 | 12) {
             continue;
         }
         let run = diagnose(&["--explain"], &example_sheet(number, example));
@@ -252,7 +252,7 @@ fn the_refusals_of_the_document_are_told_and_explained() {
         let sentence = format!("Refused ({number}, {word}), {place}. {when}\n");
         assert_eq!(run.said, sentence);
     }
-    assert!(numbers.into_iter().eq(1..=11));
+    assert!(numbers.into_iter().eq(1..=12));
 }
 
 fn refusals() -> String {

@@ -57,8 +57,9 @@ fn the_program_prints_what_the_model_does() {
     }
     assert!(met[0] >= SHEETS / 5, "{met:?}");
     for (number, met) in met.into_iter().enumerate() {
-        // The program lends room for every report, so it never tells 9.
-        let enough = if number == 9 { met == 0 } else { met >= 2 };
+        // The program lends room for every report, so it never tells 9, and it deletes and adds no wall, so never 12.
+        let never = matches!(number, 9 | 12);
+        let enough = if never { met == 0 } else { met >= 2 };
         assert!(enough, "number {number} was met {met} times");
     }
     for met in [&snow[..], &ages[1..], &repaired] {

@@ -9,7 +9,7 @@ use girderbasil_host::{MOST_WALLS, ROW, model};
 
 use crate::common::calls::NUMBERS;
 
-/// The least that a total must not be more than.
+/// The most that a total may be.
 const MOST_TOTAL: u64 = 60_000_000_000;
 
 /// A call with all that it was made on, and what it answered.
@@ -49,7 +49,7 @@ impl Call<'_> {
         self.survey.map_or(0, |survey| survey.walls().count())
     }
 
-    /// The storey of the wall that is added, or that stands at the row to be deleted.
+    /// The wall that is added, or that stands at the row to be deleted.
     fn wall(&self) -> Option<[u32; ROW]> {
         match self.change {
             Change::Start => None,
@@ -76,7 +76,7 @@ impl Call<'_> {
         of_the_house.then(|| self.totals.held[place_of(storey, direction)])
     }
 
-    /// Whether a total of the house is just above the most, and the one that moves is not above it.
+    /// Whether a total of the house is just above the most, and the one that moves is far from it.
     fn another_is_just_above(&self) -> bool {
         let of_the_house = &self.totals.held[..2 * self.storeys()];
         of_the_house.contains(&(MOST_TOTAL + 1))
