@@ -163,9 +163,9 @@ class Girderbasil {
      * @returns {Answer}
      */
     read(sheet, table) {
-        const given = viewOf("read", "sheet", sheet, Uint8Array);
-        const filled = viewOf("read", "table", table, Uint32Array);
-        return answerAt(this.#call("girderbasil_read", read(given), lent(filled)));
+        const bytes = given(viewOf("read", "sheet", sheet, Uint8Array));
+        const numbers = lent(viewOf("read", "table", table, Uint32Array));
+        return answerAt(this.#call("girderbasil_read", bytes, numbers));
     }
 
     /**
@@ -174,7 +174,7 @@ class Girderbasil {
      * @returns {Scoring}
      */
     score(table) {
-        return scoringAt(this.#call("girderbasil_score", read(viewOf("score", "table", table, Uint32Array))));
+        return scoringAt(this.#call("girderbasil_score", given(viewOf("score", "table", table, Uint32Array))));
     }
 
     /**
@@ -184,9 +184,9 @@ class Girderbasil {
      * @returns {Answer}
      */
     writeReport(table, report) {
-        const given = viewOf("writeReport", "table", table, Uint32Array);
-        const filled = viewOf("writeReport", "report", report, Uint8Array);
-        return answerAt(this.#call("girderbasil_write_report", read(given), lent(filled)));
+        const numbers = given(viewOf("writeReport", "table", table, Uint32Array));
+        const bytes = lent(viewOf("writeReport", "report", report, Uint8Array));
+        return answerAt(this.#call("girderbasil_write_report", numbers, bytes));
     }
 
     /**
@@ -195,7 +195,7 @@ class Girderbasil {
      * @returns {Output}
      */
     diagnose(sheet) {
-        return outputAt(this.#call("girderbasil_diagnose", read(viewOf("diagnose", "sheet", sheet, Uint8Array))));
+        return outputAt(this.#call("girderbasil_diagnose", given(viewOf("diagnose", "sheet", sheet, Uint8Array))));
     }
 
     /**
@@ -205,7 +205,7 @@ class Girderbasil {
      * @returns {Scoring}
      */
     start(totals, table) {
-        return this.#change("start", "girderbasil_start", totals, read(viewOf("start", "table", table, Uint32Array)));
+        return this.#change("start", "girderbasil_start", totals, given(viewOf("start", "table", table, Uint32Array)));
     }
 
     /**
@@ -219,7 +219,7 @@ class Girderbasil {
         const rows = lent(viewOf("addWall", "table", table, Uint32Array));
         const row = viewOf("addWall", "wall", wall, Uint32Array);
         requireLength("addWall", "wall", row, ROW);
-        return this.#change("addWall", "girderbasil_add_wall", totals, rows, { ...read(row), counted: false });
+        return this.#change("addWall", "girderbasil_add_wall", totals, rows, { ...given(row), counted: false });
     }
 
     /**
@@ -328,7 +328,7 @@ class Girderbasil {
  * @param {Storage} storage
  * @returns {Place}
  */
-function read(storage) {
+function given(storage) {
     return { storage, counted: true, lent: false };
 }
 

@@ -47,13 +47,12 @@ fn held(random: &mut Random, table: &[u32]) -> [u64; 6] {
     let sums = Diagnosis::of(table).map(|house| house.sums());
     let mut held = sums.unwrap_or_default();
     let others = match random.below(8) {
-        0..=3 => 0,
-        4..=5 => 1,
-        6 => 2,
-        _ => 6,
+        0..=3 => vec![],
+        4..=5 => vec![random.below(6)],
+        6 => vec![random.below(6), random.below(6)],
+        _ => (0..6).collect(),
     };
-    for place in 0..others {
-        let place = if others == 6 { place } else { random.below(6) };
+    for place in others {
         held[place] = match random.below(4) {
             0 => random.draw() % (1 << 37),
             _ => random.pick(&TOTALS),

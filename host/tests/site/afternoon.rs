@@ -5,7 +5,7 @@ use std::fmt::Debug;
 use girderbasil_host::answers::{Record, Refusal};
 use girderbasil_host::library;
 use girderbasil_host::model::{self, score::Diagnosis};
-use girderbasil_host::random::{Random, site};
+use girderbasil_host::random::{Random, house, site};
 use girderbasil_host::site::{Change, Totals};
 use girderbasil_host::{MOST_WALLS, ROW};
 
@@ -31,10 +31,10 @@ struct Afternoon {
 impl Afternoon {
     fn new(random: &mut Random) -> Self {
         let (lent, totals) = site::lent_and_totals(random);
-        let house = in_use(&lent, &totals).and_then(|rows| Diagnosis::of(rows).ok());
-        let own = house.is_some_and(|house| {
-            let places = house.count() as usize;
-            house.sums()[..places] == totals.held[..places]
+        let diagnosis = in_use(&lent, &totals).and_then(|rows| Diagnosis::of(rows).ok());
+        let own = diagnosis.is_some_and(|diagnosis| {
+            let places = diagnosis.count() as usize;
+            diagnosis.sums()[..places] == totals.held[..places]
         });
         Self {
             lent,
@@ -140,7 +140,7 @@ fn the_place_of_a_deleted_wall_serves_again() {
     let mut random = Random::new(34);
     let mut tally = Tally::default();
     for storeys in 1..=3 {
-        let mut lent = girderbasil_host::random::house::with_walls(&mut random, storeys, 300);
+        let mut lent = house::with_walls(&mut random, storeys, 300);
         let rows = (lent.len() / ROW) as u32;
         lent.extend([7; ROW]);
         let mut afternoon = Afternoon {
