@@ -82,7 +82,7 @@ export const LAYOUTS = Object.freeze({
 /**
  * What a surveyor keeps on site beside the table: `{ held: new BigUint64Array(6), rows: read.count }` to start with.
  * @typedef {object} Totals
- * @property {BigUint64Array} held the held strength of each storey and direction, in 0.000001 kN, as a scoring has its places
+ * @property {BigUint64Array} held the held strength in 0.000001 kN, in the six places that a scoring has
  * @property {number} rows how many of the table's rows are in use, from its first
  */
 

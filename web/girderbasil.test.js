@@ -211,12 +211,14 @@ test("totals, a wall and a row of another kind are a TypeError that names them",
     };
     for (const method of Object.keys(right)) {
         wrong(method, 0, undefined, "totals.held must be a BigUint64Array, not nothing");
-        wrong(method, 0, { held: Array(6).fill(0n), rows: 12 }, "totals.held must be a BigUint64Array, not a value of type Array");
+        const plain = { held: Array(6).fill(0n), rows: 12 };
+        wrong(method, 0, plain, "totals.held must be a BigUint64Array, not a value of type Array");
         wrong(method, 0, { held: new BigUint64Array(5), rows: 12 }, "totals.held must have 6 numbers, not 5");
         for (const rows of [-1, 1.5, 2 ** 32, NaN]) {
             wrong(method, 0, { ...totals, rows }, `totals.rows must be a whole number of 32 bits, not ${rows}`);
         }
-        wrong(method, 0, { ...totals, rows: 12n }, "totals.rows must be a whole number of 32 bits, not a value of type BigInt");
+        const long = { ...totals, rows: 12n };
+        wrong(method, 0, long, "totals.rows must be a whole number of 32 bits, not a value of type BigInt");
         wrong(method, 1, [1], "table must be a Uint32Array, not a value of type Array");
     }
     wrong("addWall", 2, [...wall], "wall must be a Uint32Array, not a value of type Array");

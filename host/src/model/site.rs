@@ -11,7 +11,7 @@ use crate::answers::{Record, Refusal};
 use crate::site::{Change, Totals, place_of};
 
 /// The most that "any total of the house, moved or not," may be.
-const MOST_TOTAL: u64 = 60_000_000_000;
+pub const MOST_TOTAL: u64 = 60_000_000_000;
 
 /// Does any of the three to a record and a lent table.
 pub fn change(totals: &mut Totals, table: &mut [u32], change: &Change) -> Result<Record, Refusal> {
@@ -82,8 +82,8 @@ fn numbers_of(index: usize) -> Range<usize> {
     ROW * index..ROW * (index + 1)
 }
 
-/// The totals with one moved by a wall's share alone, unless "any total of the house, moved or not, would then lie outside 0
-/// to 60,000,000,000".
+/// The totals with one moved by a wall's share alone, unless "any total of the house, moved or not, would then lie
+/// outside 0 to 60,000,000,000".
 fn moved(
     totals: &Totals,
     survey: &Survey,

@@ -113,8 +113,8 @@ impl Survey<'_> {
         }
     }
 
-    /// The index, from 0, of the row that a wall of a storey takes: after the last wall whose storey isn't above its own, and
-    /// with none, after the ends.
+    /// The index, from 0, of the row that a wall of a storey takes: after the last wall whose storey isn't above its
+    /// own, and with none, after the ends.
     pub fn index_for_wall(&self, storey: u32) -> usize {
         let not_above = |row: &Row| row[1] <= storey;
         let walls_before = self.walls.iter().rposition(not_above);
@@ -296,19 +296,10 @@ fn judge_walls(rows: &[Row], first: usize, storeys: u32) -> Result<&[Row], Refus
 
 /// Judges a wall's row, or one that is to become a wall's, by its ranges; "a kind other than 4" is out of them too.
 pub fn judge_wall(index: usize, row: &Row, storeys: u32) -> Result<(), Refusal> {
-    let [
-        row_kind,
-        storey,
-        direction,
-        place,
-        strength,
-        length,
-        joint,
-        kind,
-    ] = *row;
+    let [_, storey, direction, place, strength, length, joint, kind] = *row;
     let opening = matches!(kind, 2..=3);
     let in_range = [
-        row_kind == WALL,
+        row[0] == WALL,
         (1..=storeys).contains(&storey),
         matches!(direction, 1..=2),
         matches!(place, 1..=3),

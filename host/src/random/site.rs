@@ -3,6 +3,7 @@
 use super::Random;
 use super::{damage, house};
 use crate::model::score::Diagnosis;
+use crate::model::site::MOST_TOTAL;
 use crate::site::{Change, Totals};
 use crate::{MOST_ROWS, ROW};
 
@@ -12,9 +13,9 @@ const WALL: u32 = 4;
 const TOTALS: [u64; 7] = [
     0,
     1,
-    59_999_999_999,
-    60_000_000_000,
-    60_000_000_001,
+    MOST_TOTAL - 1,
+    MOST_TOTAL,
+    MOST_TOTAL + 1,
     1 << 63,
     u64::MAX,
 ];

@@ -3,14 +3,12 @@
 use std::collections::BTreeMap;
 
 use girderbasil_host::answers::{Record, Refusal};
+use girderbasil_host::model::site::MOST_TOTAL;
 use girderbasil_host::model::survey::Survey;
 use girderbasil_host::site::{Change, Totals, place_of};
 use girderbasil_host::{MOST_WALLS, ROW, model};
 
 use crate::common::calls::NUMBERS;
-
-/// The most that a total may be.
-const MOST_TOTAL: u64 = 60_000_000_000;
 
 /// The functions, by their place in a tally.
 const START: usize = 0;
