@@ -24,13 +24,19 @@ const TABLE: usize = MOST_NUMBERS + 2 * ROW;
 // One more than the largest number of a line.
 const FIELD: u64 = 100_000_000;
 
+// A change on site.
+#[derive(Clone, Copy)]
+enum Change<'a> {
+    Start,
+    Add(&'a [u32; ROW]),
+    // Of the wall in that row, which counts from 1.
+    Delete(u32),
+}
+
 // What is done in a step.
 #[derive(Clone, Copy)]
 enum Step<'a> {
-    Start,
-    Add(&'a [u32; ROW]),
-    // The wall in the row of that number, which counts from 1.
-    Delete(u32),
+    Change(Change<'a>),
     // What the caller writes itself: the total of a place,
     SetTotal(usize, u64),
     // the count of the rows in use,
@@ -59,14 +65,14 @@ fn narrowed(number: u64) -> u32 {
 
 impl Step<'_> {
     // The step that two lines say: what is done, the place, and a number in three columns. None where they say none.
-    fn said<'a>(line: &[u32; ROW], wall: &'a [u32; ROW]) -> Option<Step<'a>> {
+    fn read<'a>(line: &[u32; ROW], wall: &'a [u32; ROW]) -> Option<Step<'a>> {
         let [what, place, high, middle, low, ..] = *line;
         let place = place as usize;
         let number = joined([high, middle, low]);
         match what {
-            1 => Some(Step::Start),
-            2 => Some(Step::Add(wall)),
-            3 => Some(Step::Delete(narrowed(number))),
+            1 => Some(Step::Change(Change::Start)),
+            2 => Some(Step::Change(Change::Add(wall))),
+            3 => Some(Step::Change(Change::Delete(narrowed(number)))),
             4 => Some(Step::SetTotal(place, number)),
             5 => Some(Step::SetRows(narrowed(number))),
             6 => Some(Step::SetLent(number as usize)),
@@ -125,48 +131,47 @@ impl Caller<'_> {
         Ok(())
     }
 
-    // Takes a step; where it is a change, prints its answer and the totals afterwards.
-    fn take(&mut self, rt: &impl Print, step: Step<'_>) -> io::Result<()> {
+    // Makes a change, and prints its answer and the totals afterwards.
+    fn change(&mut self, rt: &impl Print, change: Change<'_>) -> io::Result<()> {
         let Some(lent) = self.table.get_mut(..self.lent) else {
-            return Ok(());
+            return println!(rt; "too many lent");
         };
-        let totals = &mut self.totals;
-        match step {
-            Step::Start => {
+        let scoring = match change {
+            Change::Start => {
                 println!(rt; "start")?;
-                print_scoring(rt, site::start(totals, lent))?;
+                site::start(&mut self.totals, lent)
             }
-            Step::Add(wall) => {
+            Change::Add(wall) => {
                 println!(rt; "add")?;
-                print_scoring(rt, site::add_wall(totals, lent, wall))?;
+                site::add_wall(&mut self.totals, lent, wall)
             }
-            Step::Delete(row) => {
+            Change::Delete(row) => {
                 println!(rt; "delete {row}")?;
-                print_scoring(rt, site::delete_wall(totals, lent, row))?;
+                site::delete_wall(&mut self.totals, lent, row)
             }
+        };
+        print_scoring(rt, scoring)?;
+        self.print_totals(rt)
+    }
+
+    fn take(&mut self, rt: &impl Print, step: Step<'_>) -> io::Result<()> {
+        match step {
+            Step::Change(change) => return self.change(rt, change),
             Step::SetTotal(place, number) => {
-                if let Some(total) = totals.held.get_mut(place) {
+                if let Some(total) = self.totals.held.get_mut(place) {
                     *total = number;
                 }
-                return Ok(());
             }
-            Step::SetRows(rows) => {
-                totals.rows = rows;
-                return Ok(());
-            }
-            Step::SetLent(count) => {
-                self.lent = count;
-                return Ok(());
-            }
+            Step::SetRows(rows) => self.totals.rows = rows,
+            Step::SetLent(count) => self.lent = count,
             Step::SetNumber(place, number) => {
                 if let Some(cell) = self.table.get_mut(place) {
                     *cell = number;
                 }
-                return Ok(());
             }
             Step::Show => return self.print_rows(rt),
         }
-        self.print_totals(rt)
+        Ok(())
     }
 }
 
@@ -175,7 +180,7 @@ fn play_steps(rt: &impl Print, lines: &[u32], caller: &mut Caller<'_>) -> io::Re
     let (rows, _) = lines.as_chunks::<ROW>();
     let (steps, _) = rows.as_chunks::<2>();
     for [line, wall] in steps {
-        match Step::said(line, wall) {
+        match Step::read(line, wall) {
             Some(step) => caller.take(rt, step)?,
             None => println!(rt; "no step")?,
         }
@@ -187,7 +192,9 @@ fn play_steps(rt: &impl Print, lines: &[u32], caller: &mut Caller<'_>) -> io::Re
 fn play(rt: &impl Print, house: &[u8], script: &[u8]) -> io::Result<()> {
     let mut table = [0u32; TABLE];
     let mut lines = [0u32; MOST_NUMBERS];
-    match (sheet::read(house, &mut table), sheet::read(script, &mut lines)) {
+    let rows = sheet::read(house, &mut table);
+    let count = sheet::read(script, &mut lines);
+    match (rows, count) {
         (Ok(rows), Ok(count)) => {
             let Some(lines) = lines.get(..ROW * count as usize) else {
                 return Ok(());
@@ -211,7 +218,9 @@ fn main(rt: HostRuntime) -> io::Result<()> {
     while let (Some(house), Some(script)) = (words.next(), words.next()) {
         let (house, script) = (house.as_str(), script.as_str());
         println!(rt; "{house} {script}")?;
-        run_file(&rt, house, |house| run_file(&rt, script, |script| play(&rt, house, script)))?;
+        run_file(&rt, house, |house| {
+            run_file(&rt, script, |script| play(&rt, house, script))
+        })?;
     }
     Ok(())
 }
