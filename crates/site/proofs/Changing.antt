@@ -22,7 +22,7 @@ use Rattle.diagnosis.specs.Answers.{six_numbers}
 use Rattle.site.proofs.OwnSums.{sums_within}
 use Rattle.site.specs.Changes.{State, on, rows_of, checking, started, row_taken, addition, add_told, with_wall, deletion, delete_told, without_wall, empty_row}
 use Rattle.site.proofs.Checking.{checked}
-use Rattle.site.proofs.PutRows.{Put, Stands}
+use Rattle.site.proofs.PutRows.{Put, Stands, same_house}
 use Rattle.site.proofs.Additions as additions
 use Rattle.site.proofs.Deletions as deletions
 use Rattle.site.proofs.States.{Ready, add_fits, add_put, add_stands, add_rows, add_table_long, add_judged, Found, delete_fits, delete_put, delete_stands, delete_rows, delete_table_long, delete_judged, in_use_long}
@@ -33,12 +33,6 @@ told_first tells next r e = e ∙ ap (λ (b : Bool). cond b next tells) (ap acce
 
 next_told : (tells next : Told) → accepts tells ≡ true → next ≡ cond (accepts tells) next tells
 next_told tells next e = rw e refl
-
--- One house row, and the same house, with a wall more or less.
-pub same_house : {A B : List ℕ} {at : ℕ} → Put A B at → 0 < at → house_of B ≡ house_of A
-same_house p past =
-    let same = p.before 0 past in
-    rw (same 1 (omega arith), same 2 (omega arith), same 3 (omega arith), same 4 (omega arith), same 5 (omega arith), same 7 (omega arith))
 
 -- An accepted table has this house, and so many rows.
 house_is : (table : List ℕ) → (judging table).number ≡ 0 → {house : House} → house ≡ house_of table → HouseOf table house

@@ -11,3 +11,4 @@ pub mod States
 pub mod OwnSums
 pub mod Changing
 pub mod Answering
+pub mod RowSums

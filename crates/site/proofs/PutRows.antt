@@ -7,6 +7,7 @@ use Rattle.survey.specs.Table.{cell, storeys, ends_storey, is_wall, first_wall, 
 use Rattle.survey.specs.declared.ranges.Range.{Range}
 use Rattle.survey.specs.Ranges.{house_columns, storey_columns, ends_columns, wall_columns, parts_columns, dates_columns}
 use Rattle.survey.specs.Acceptance.{Inside, Accepted}
+use Rattle.diagnosis.specs.Rows.{house_of}
 
 -- A row of one table is a row of another.
 abbrev pub Same : List ℕ → ℕ → List ℕ → ℕ → Type 0
@@ -75,6 +76,12 @@ pub record Put (A B : List ℕ) (at : ℕ) : Type 0 where
   pub long : length B ≡ length A + 8
   pub before : (row : ℕ) → row < at → Same A row B row
   pub after : (row : ℕ) → at ≤ row → Same A row B (row + 1)
+
+-- One house row, and the same house, with a wall more or less.
+pub same_house : {A B : List ℕ} {at : ℕ} → Put A B at → 0 < at → house_of B ≡ house_of A
+same_house p past =
+    let same = p.before 0 past in
+    rw (same 1 (omega arith), same 2 (omega arith), same 3 (omega arith), same 4 (omega arith), same 5 (omega arith), same 7 (omega arith))
 
 -- What is so of both, where the row is one of B's walls.
 pub record Stands (A B : List ℕ) (at : ℕ) : Type 0 where

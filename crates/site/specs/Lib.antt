@@ -3,4 +3,5 @@
 pub mod Rows
 pub mod Totals
 pub mod Changes
+pub mod Runs
 pub mod Internal

@@ -50,7 +50,7 @@ module _ (test : ℕ → Bool) (table : List ℕ) (row : ℕ) where
   where_all (suc n) h =
       rw (add-suc, h n (omega arith), where_all n (λ k l. h k (omega arith)), append_assoc, rows_more table row n)
 
--- What is shown of a storey: so many rows from a row on, each of them a wall of that storey.
+-- What is shown of a storey: so many rows from a row on, each of them a wall of that storey, and no other row is one.
 pub record Shown (table : List ℕ) (storey : ℕ) : Type 0 where
   pub start : ℕ
   pub count : ℕ
@@ -58,6 +58,7 @@ pub record Shown (table : List ℕ) (storey : ℕ) : Type 0 where
   pub fits : 8 * start + 8 * count ≤ length table
   pub few : count ≤ most_walls
   pub each : (k : ℕ) → k < count → (first_wall table ≤ start + k) × (start + k < parts_row table) × (cell table (start + k) 1 ≡ storey)
+  pub no_other : (row : ℕ) → row < length table / 8 → is_wall_of table storey row ≡ true → (start ≤ row) × (row < start + count)
 
 module _ (table : List ℕ) (h : (judging table).number ≡ 0) where
   a : Accepted table
@@ -97,7 +98,7 @@ module _ (table : List ℕ) (h : (judging table).number ≡ 0) where
         let stands = wall_stands row h (eqb→eq (cell table row 0) 4 both.0) in
         (stands.0, stands.1, eqb→eq (cell table row 1) storey both.1)
 
-    is_taken : (row : ℕ) → first_wall table ≤ row → row < parts_row table → cell table row 1 ≡ storey → taken row ≡ true
+    pub is_taken : (row : ℕ) → first_wall table ≤ row → row < parts_row table → cell table row 1 ≡ storey → taken row ≡ true
     unfolding is_wall_of
     is_taken row past before e =
         let inside = a.wall_inside row past before 0 (omega arith) in
@@ -176,6 +177,19 @@ module _ (table : List ℕ) (h : (judging table).number ≡ 0) where
             omega (arith, head.0, last.1, a.few)
         go (no l) = omega arith
 
+    no_other_row : (row : ℕ) → row < rows → taken row ≡ true → (start ≤ row) × (row < start + count)
+    no_other_row row inside e = go (dec_lt row start) (dec_lt row (start + count))
+      where
+        true_false : true ≡ false → ⊥
+        true_false e = subst T e tt
+
+        go : Dec (row < start) → Dec (row < start + count) → (start ≤ row) × (row < start + count)
+        go (yes l) _ = absurd (true_false (sym e ∙ before_run row l))
+        go (no l) (yes m) = (omega arith, m)
+        go (no l) (no m) =
+            let same : start + count + (row - (start + count)) ≡ row = omega arith in
+            absurd (true_false (sym e ∙ rw same at (after_run (row - (start + count)) (omega arith))))
+
     pub shown : Shown table storey
     unfolding storey_run
     shown = record {
@@ -185,6 +199,7 @@ module _ (table : List ℕ) (h : (judging table).number ≡ 0) where
       fits = omega (arith, count_most);
       few = run_few;
       each = λ k l. taken_is (start + k) (omega (arith, count_most)) (in_run k l);
+      no_other = no_other_row;
     }
 
     -- A house that lacks the storey shows nothing of it.
