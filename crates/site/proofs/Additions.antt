@@ -2,6 +2,7 @@
 use Rattle.std.proofs.Common.{◌≡◌, refl, sym, ap, ◌∙◌, Bool, true, false, cond, Option, Some, None, List, ℕ, ◌+◌, ◌*◌, ◌/◌, ◌^◌, ◌<◌, ◌≤◌, arith, length, ltb, leb, lt-ltb, le-ltb, ltb-true, ltb-false}
 use Rattle.std.proofs.lemmas.Bool.{le-leb, lt-leb}
 use borrow.Author.Tests.{leb-false}
+use native.Mathlib.Decide.{dec_lt, dec_le}
 use Rattle.answer.specs.Told.{Told, accepts, counted, refusal, out_of_range, too_many_walls, lent_space_short, no_such_wall}
 use Rattle.answer.specs.Length.{most_walls}
 use Rattle.survey.specs.Table.{cell, storeys, wall_rows}
@@ -68,6 +69,34 @@ module _ (rows held wall : List ℕ) (lent : ℕ) where
       go false ea false eb false ec true ed e = absurd (refused_counts no_such_wall 0 0 e)
       go false ea false eb false ec false ed e =
           record { ranged = ltb-false _ _ ea; few = leb-false _ _ eb; room = ltb-false _ _ ec; within = ed }
+
+  -- Which numbers are told, where no total can be above once the tests before have passed.
+  pub record Numbers : Type 0 where
+    pub no_total : (addition rows held lent wall).number ≡ no_such_wall → ⊥
+    pub walls : (addition rows held lent wall).number ≡ too_many_walls → most_walls ≤ wall_rows rows
+    pub space : (addition rows held lent wall).number ≡ lent_space_short → lent < length rows + 8
+
+  pub numbers_told : (8 ≤ column → wall_rows rows < most_walls → length rows + 8 ≤ lent → some_above (storeys rows) (total_added rows held wall) ≡ false) → Numbers
+  numbers_told within = go (dec_lt column 8) (dec_le most_walls (wall_rows rows)) (dec_lt lent (length rows + 8))
+    where
+      go : Dec (column < 8) → Dec (most_walls ≤ wall_rows rows) → Dec (lent < length rows + 8) → Numbers
+      go (yes l) _ _ =
+          let four = ap (λ (t : Told). t.number) (told_range column refl l) in
+          record { no_total = λ e. omega (arith, four, e); walls = λ e. absurd (omega (arith, four, e)); space = λ e. absurd (omega (arith, four, e)) }
+      go (no l) (yes many) _ =
+          let five = ap (λ (t : Told). t.number) (told_walls (omega arith) many) in
+          record { no_total = λ e. omega (arith, five, e); walls = λ e. many; space = λ e. absurd (omega (arith, five, e)) }
+      go (no l) (no few) (yes short) =
+          let nine = ap (λ (t : Told). t.number) (told_room (omega arith) (omega arith) short) in
+          record { no_total = λ e. omega (arith, nine, e); walls = λ e. absurd (omega (arith, nine, e)); space = λ e. short }
+      go (no l) (no few) (no room) =
+          let none = ap (λ (t : Told). t.number) (passes_told (record {
+            ranged = omega arith;
+            few = omega arith;
+            room = omega arith;
+            within = within (omega arith) (omega arith) (omega arith);
+          })) in
+          record { no_total = λ e. omega (arith, none, e); walls = λ e. absurd (omega (arith, none, e)); space = λ e. absurd (omega (arith, none, e)) }
 
   -- A wall whose numbers lie in their ranges stands in a storey of the house.
   pub wall_inside : 8 ≤ column → Inside (wall_ranges (storeys rows) (cell wall 0 7)) wall 0

@@ -84,3 +84,15 @@ module _ (rows held : List ℕ) (row : ℕ) where
       go true ea false eb true ec e = absurd (refused_counts no_such_wall 0 0 e)
       go true ea false eb false ec e =
           record { wall = wall_of_test ea; enough_held = ltb-false (wall_total held rows (row - 1)) (row_share (house_of rows) rows (row - 1)) eb; within = ec }
+
+  -- Where a wall's total is never too small, nor another above, 12 is told at the row that is no wall.
+  pub twelve_told : (Wall (row - 1) → enough × (some_above (storeys rows) (total_taken rows held (row - 1)) ≡ false))
+      → (deletion rows held row).number ≡ no_such_wall → deletion rows held row ≡ refusal no_such_wall row 0
+  twelve_told fine e = go stands refl
+    where
+      go : (b : Bool) → stands ≡ b → deletion rows held row ≡ refusal no_such_wall row 0
+      go false f = sym (no_wall (rw f refl))
+      go true f =
+          let wall = wall_of_test f in
+          let none = ap (λ (t : Told). t.number) (passes_told (record { wall = wall; enough_held = (fine wall).0; within = (fine wall).1 })) in
+          absurd (omega (arith, none, e))

@@ -12,3 +12,4 @@ pub mod OwnSums
 pub mod Changing
 pub mod Answering
 pub mod RowSums
+pub mod OwnRuns
