@@ -60,6 +60,15 @@ module _ (table held : List ℕ) (rows : ℕ) (after : State) (is : on table (re
   pub stored_made : (changed : Changed) → Made changed (on table (record { held = held; rows = rows })) → (table ≡ after.table) × Made changed after
   stored_made changed made = (ap (λ (s : State). s.table) is, subst (λ (s : State). Made changed s) is made)
 
+-- How many rows are in use afterwards.
+pub count_with : (s : State) (wall : List ℕ) → (with_wall s wall).totals.rows ≡ s.totals.rows + 1
+unfolding with_wall
+count_with s wall = refl
+
+pub count_left : (s : State) (row : ℕ) → (without_wall s row).totals.rows ≡ s.totals.rows - 1
+unfolding without_wall
+count_left s row = refl
+
 module _ (s : State) where
   -- A refusal of the rows in use, and of the tests after them.
   pub add_refused : (wall : List ℕ) (r : Refusal) → told (Err r) ≡ checking s → told (Err r) ≡ add_told s wall

@@ -1,5 +1,5 @@
 -- The tests of a deletion, one after the other, and what holds where it passes them all. Assumes nothing.
-use Rattle.std.proofs.Common.{◌≡◌, refl, sym, ap, ◌∙◌, Bool, true, false, cond, not, ◌&&◌, ◌||◌, T, subst, Option, Some, None, List, ℕ, ◌+◌, ◌-◌, ◌*◌, ◌/◌, ◌<◌, ◌≤◌, arith, length, eqb, ltb, lt-ltb, le-ltb, ltb-true, ltb-false, eqb→eq, ltb→lt}
+use Rattle.std.proofs.Common.{◌≡◌, refl, sym, ap, ◌∙◌, Bool, true, false, cond, not, ◌&&◌, ◌||◌, T, subst, Option, Some, None, List, ℕ, ◌+◌, ◌-◌, ◌*◌, ◌/◌, ◌<◌, ◌≤◌, arith, length, eqb, ltb, lt-ltb, le-ltb, ltb-true, ltb-false, eq-eqb, eqb→eq, ltb→lt}
 use mir.Facts.{and_yes}
 use Rattle.answer.specs.Told.{Told, accepts, counted, refusal, no_such_wall}
 use Rattle.survey.specs.Table.{cell, storeys, is_wall}
@@ -25,6 +25,10 @@ module _ (rows held : List ℕ) (row : ℕ) where
   wall_of_test e =
       let both = and_yes (ltb 0 row) (is_wall rows (row - 1)) (subst T (sym e) tt) in
       record { some = ltb→lt 0 row both.0; at_is = refl; kind = eqb→eq (cell rows (row - 1) 0) 4 both.1; test = e }
+
+  pub wall_here : 0 < row → cell rows (row - 1) 0 ≡ 4 → Wall (row - 1)
+  wall_here some kind =
+      record { some = some; at_is = refl; kind = kind; test = rw (lt-ltb 0 row some, eq-eqb (cell rows (row - 1) 0) 4 kind) refl }
 
   pub found_wall : {at : ℕ} → Some at ≡ wall_row rows row → Wall at
   found_wall {at} e = go stands refl e

@@ -13,3 +13,6 @@ pub mod Changing
 pub mod Answering
 pub mod RowSums
 pub mod OwnRuns
+pub mod AcceptedChanges
+pub mod PutBack
+pub mod Unread

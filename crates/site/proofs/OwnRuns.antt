@@ -22,11 +22,11 @@ use Rattle.site.specs.Runs.{Change, add, delete, EightNumbers, change_told, answ
 use Rattle.site.proofs.SixTotals.{total_set, total_other}
 use Rattle.site.proofs.Checking.{checked, checking_accepts}
 use Rattle.site.proofs.PutRows.{Put, Stands, same_house}
-use Rattle.site.proofs.States.{Ready, add_ranged, add_numbers, add_kind, add_put, add_stands, add_made, add_rows, add_table_long, add_fits, add_judged, Found, delete_put, delete_stands, delete_made, delete_ranged, delete_rows, delete_table_long, delete_fits, delete_judged}
+use Rattle.site.proofs.States.{in_use_long, Ready, add_ranged, add_numbers, add_kind, add_put, add_stands, add_made, add_rows, add_table_long, add_fits, add_judged, Found, delete_put, delete_stands, delete_made, delete_ranged, delete_rows, delete_table_long, delete_fits, delete_judged}
 use Rattle.site.proofs.OwnSums.{own_within, sums_six, sums_own}
 use Rattle.site.proofs.Additions as additions
 use Rattle.site.proofs.Deletions as deletions
-use Rattle.site.proofs.Changing.{add_next, delete_next}
+use Rattle.site.proofs.Changing.{add_next, delete_next, count_left}
 use Rattle.site.proofs.RowSums.{counted, held_put}
 
 -- A wall counts towards its own storey and direction, and no other.
@@ -289,3 +289,31 @@ pub answer_fresh : (s : State) → Own s → (change : Change) → EightNumbers 
     → answer_of s change ≡ scoring (rows_of (after s change))
 answer_fresh s own (add wall) eight e = fresh (add_told s wall) s (with_wall s wall) e (own_added s wall (add_ready s own wall eight e) own)
 answer_fresh s own (delete row) eight e = fresh (delete_told s row) s (without_wall s row) e (own_left s own row (delete_found s own row e))
+
+-- A wall of a record with its own sums can be deleted,
+module _ (s : State) (own : Own s) (row : ℕ) where
+  pub wall_deleted : 0 < row → cell (rows_of s) (row - 1) 0 ≡ 4 → accepts (delete_told s row) ≡ true
+  wall_deleted some kind =
+      let f : Found s row = record { fits = own.fits; rows_accepted = own.rows_accepted; some = some; kind = kind } in
+      sym (ap accepts (delete_is s own row))
+      ∙ ap accepts (deletions.passes_told (rows_of s) s.totals.held row (record {
+        wall = deletions.wall_here (rows_of s) s.totals.held row some kind;
+        enough_held = enough_held s own row f;
+        within = left_within s own row f;
+      }))
+
+  -- and its place serves again: then there are fewer walls than the limit, and there is a row left.
+  pub place_serves : accepts (delete_told s row) ≡ true → (wall : List ℕ) → length wall ≡ 8
+      → ((add_told (without_wall s row) wall).number ≡ too_many_walls → ⊥) × ((add_told (without_wall s row) wall).number ≡ lent_space_short → ⊥)
+  place_serves e wall eight =
+      let f = delete_found s own row e in
+      let next = own_left s own row f in
+      let numbers = add_numbers_told (without_wall s row) next wall eight in
+      let add = add_is (without_wall s row) next wall in
+      let fewer : wall_rows (rows_of (without_wall s row)) + 1 ≡ wall_rows (rows_of s) =
+          omega (arith, ap wall_rows (delete_rows s row f), (delete_stands s row f).walls_more) in
+      let most = (accepted (rows_of s) own.rows_accepted).few in
+      (λ five. omega (arith, numbers.walls (ap (λ (t : Told). t.number) add ∙ five), fewer, most),
+      λ nine.
+      omega (arith, numbers.space (ap (λ (t : Told). t.number) add ∙ nine), in_use_long (without_wall s row) next.fits, count_left s row, delete_fits s row f, delete_table_long s row f,
+      own.fits))

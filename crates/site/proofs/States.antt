@@ -83,17 +83,17 @@ module _ (s : State) (wall : List ℕ) (t : Ready s wall) where
       (λ l. rw (add_numbers 1 (omega arith)) (row_due_above A (cell wall 0 1) l))
       (λ l. rw (add_numbers 1 (omega arith)) (omega (arith, row_due_below A (cell wall 0 1) l)))
 
-  B_long : length B ≡ 8 * (s.totals.rows + 1)
-  B_long = omega (arith, with_long A at wall at_fits t.eight, A_long)
+  pub add_long : length B ≡ 8 * (s.totals.rows + 1)
+  add_long = omega (arith, with_long A at wall at_fits t.eight, A_long)
 
   -- The rows in use afterwards, which are accepted.
   pub add_rows : rows_of (with_wall s wall) ≡ B
   unfolding with_wall over
-  add_rows = ap (λ (n : ℕ). take n (B ++ drop (length B) s.table)) (sym B_long) ∙ take-append_seam B (drop (length B) s.table)
+  add_rows = ap (λ (n : ℕ). take n (B ++ drop (length B) s.table)) (sym add_long) ∙ take-append_seam B (drop (length B) s.table)
 
   pub add_table_long : length (with_wall s wall).table ≡ length s.table
   unfolding with_wall
-  add_table_long = over_length s.table B (omega (arith, B_long, add_fits))
+  add_table_long = over_length s.table B (omega (arith, add_long, add_fits))
 
   pub add_judged : (judging (rows_of (with_wall s wall))).number ≡ 0
   add_judged = ap (λ (t : List ℕ). (judging t).number) add_rows ∙ ap (λ (t : Told). t.number) (made_accepted B add_made)
@@ -160,6 +160,9 @@ module _ (s : State) (row : ℕ) (f : Found s row) where
   pub delete_table_long : length (without_wall s row).table ≡ length s.table
   unfolding without_wall
   delete_table_long = over_length s.table (L ++ empty_row) (omega (arith, length-append L empty_row, L_long, delete_fits, f.fits))
+
+  pub delete_long : length (L ++ empty_row) ≡ 8 * s.totals.rows
+  delete_long = omega (arith, length-append L empty_row, L_long, delete_fits)
 
   pub delete_judged : (judging (rows_of (without_wall s row))).number ≡ 0
   delete_judged = ap (λ (t : List ℕ). (judging t).number) delete_rows ∙ ap (λ (t : Told). t.number) (made_accepted L delete_made)

@@ -44,3 +44,9 @@ pub record Own (s : State) : Type 0 where
   pub fits : 8 * s.totals.rows ≤ length s.table
   pub rows_accepted : (judging (rows_of s)).number ≡ 0
   pub sums : (storey direction : ℕ) → InHouse (rows_of s) storey direction → number_at s.totals.held storey direction ≡ held (rows_of s) storey direction
+
+-- Two states that differ in rows beyond those in use alone: "rows beyond them aren't read".
+pub record Alike (s t : State) : Type 0 where
+  pub totals : s.totals ≡ t.totals
+  pub long : length s.table ≡ length t.table
+  pub rows : rows_of s ≡ rows_of t
