@@ -16,3 +16,6 @@ pub mod OwnRuns
 pub mod AcceptedChanges
 pub mod PutBack
 pub mod Unread
+pub mod Answers
+pub mod Examples
+pub mod Theorems

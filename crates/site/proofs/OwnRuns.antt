@@ -9,18 +9,18 @@ use Rattle.survey.specs.Judgement.{judging, new_wall_column}
 use Rattle.survey.specs.Walls.{is_wall_of}
 use Rattle.survey.specs.Acceptance.{Accepted}
 use Rattle.survey.proofs.Acceptance.{accepted, made_accepted}
-use Rattle.survey.proofs.RefusalNumbers.{judging_accepts}
+use Rattle.survey.proofs.RefusalNumbers.{judging_accepts, accepted_number}
 use Rattle.diagnosis.specs.Rows.{house_of}
 use Rattle.diagnosis.specs.House.{InHouse, share, row_share, held}
-use Rattle.diagnosis.specs.Answers.{ToldScoring, told_scored, score_at, number_at, record_with, record_of, recorded, scoring}
+use Rattle.diagnosis.specs.Answers.{ToldScoring, told_scored, told_refused, six_numbers, score_at, number_at, record_with, record_of, recorded, scoring}
 use Rattle.diagnosis.proofs.AcceptedTables.{storeys_few}
 use Rattle.diagnosis.proofs.GivenStrengths.{SameInHouse, record_own}
 use Rattle.site.specs.Rows.{with_row, without_row}
 use Rattle.site.specs.Totals.{wall_total, total_added, total_taken, some_above}
-use Rattle.site.specs.Changes.{State, rows_of, checking, started, answered, left, row_taken, addition, add_told, with_wall, deletion, delete_told, without_wall}
+use Rattle.site.specs.Changes.{State, rows_of, checking, started, starting, answered, left, row_taken, addition, add_told, with_wall, deletion, delete_told, without_wall}
 use Rattle.site.specs.Runs.{Change, add, delete, EightNumbers, change_told, answer_of, after, after_run, AllEightNumbers, Own}
 use Rattle.site.proofs.SixTotals.{total_set, total_other}
-use Rattle.site.proofs.Checking.{checked, checking_accepts}
+use Rattle.site.proofs.Checking.{checked, checking_judged, checking_accepts}
 use Rattle.site.proofs.PutRows.{Put, Stands, same_house}
 use Rattle.site.proofs.States.{in_use_long, Ready, add_ranged, add_numbers, add_kind, add_put, add_stands, add_made, add_rows, add_table_long, add_fits, add_judged, Found, delete_put, delete_stands, delete_made, delete_ranged, delete_rows, delete_table_long, delete_fits, delete_judged}
 use Rattle.site.proofs.OwnSums.{own_within, sums_six, sums_own}
@@ -260,6 +260,10 @@ module _ (s : State) (own : Own s) where
       (enough_held s own row f, left_within s own row f))
       (ap (λ (t : Told). t.number) (delete_is row) ∙ e)
 
+-- What is told of an addition has the number of its tests.
+pub add_number : (s : State) (own : Own s) (wall : List ℕ) → (addition (rows_of s) s.totals.held (length s.table) wall).number ≡ (add_told s wall).number
+add_number s own wall = ap (λ (t : Told). t.number) (add_is s own wall)
+
 -- One change keeps the sums, whatever it is told.
 keeps : (tells : Told) (before after : State) → Own before → (accepts tells ≡ true → Own after) → Own (left tells before after)
 unfolding left
@@ -289,6 +293,20 @@ pub answer_fresh : (s : State) → Own s → (change : Change) → EightNumbers 
     → answer_of s change ≡ scoring (rows_of (after s change))
 answer_fresh s own (add wall) eight e = fresh (add_told s wall) s (with_wall s wall) e (own_added s wall (add_ready s own wall eight e) own)
 answer_fresh s own (delete row) eight e = fresh (delete_told s row) s (without_wall s row) e (own_left s own row (delete_found s own row e))
+
+-- A start answers what scoring its rows in use does, accepted or refused.
+pub started_fresh : (s : State) → 8 * s.totals.rows ≤ length s.table → starting s ≡ scoring (rows_of s)
+unfolding answered scoring started
+started_fresh s fits = rw (checking_judged s fits) (go (accepts (judging (rows_of s))) refl)
+  where
+    R : List ℕ
+    R = rows_of s
+
+    go : (b : Bool) → accepts (judging R) ≡ b
+        → cond b (told_scored (record_with R (number_at (six_numbers R (held R))))) (told_refused (judging R).number (judging R).row (judging R).column)
+        ≡ cond b (told_scored (record_of R)) (told_refused (judging R).number (judging R).row (judging R).column)
+    go true e = ap told_scored (record_own R (number_at (six_numbers R (held R))) (sums_own R (accepted_number R e)))
+    go false e = refl
 
 -- A wall of a record with its own sums can be deleted,
 module _ (s : State) (own : Own s) (row : ℕ) where

@@ -4,4 +4,5 @@ pub mod Rows
 pub mod Totals
 pub mod Changes
 pub mod Runs
+pub mod Worked
 pub mod Internal
