@@ -19,7 +19,6 @@ use Rattle.method.proofs.Fractions.{deterioration_falls, repair_falls}
 use Rattle.method.proofs.Comparisons.{score_before_falls, full_score_falls, verdict_rises}
 use Rattle.diagnosis.specs.Rows.{foundation, snow, house_of, storey_of, end_a, end_b, wall_of, present, marked, items_of, repaired, completion, survey_day, age}
 use Rattle.diagnosis.specs.House.{InHouse, share, held, end_held, narrow, required_of, required, end_required, end_strengths, end_band, higher_band, storey_floor_type, layout, deterioration, strengths_with, score_before, score_with, quotient_with, full_score, scores, least_score, house_verdict}
-use Rattle.diagnosis.specs.Answers.{record_with, record_of}
 use Rattle.diagnosis.specs.Comparison.{house_may_differ, parts_may_differ, dates_may_differ, may_differ, SameOrWorse, BandKept, NoBetter}
 use Rattle.diagnosis.proofs.ScoreLists.{scores_length, score_at_lem, record_score, record_verdict, record_told, least_falls, in_house_at}
 use Rattle.diagnosis.proofs.AcceptedTables.{required_some}

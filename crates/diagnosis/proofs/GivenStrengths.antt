@@ -1,6 +1,5 @@
 -- The record of a house by held strengths that are given: it goes by those of the house's storeys alone. Assumes nothing.
-use Rattle.std.proofs.Common.{◌≡◌, refl, ap, ◌∙◌, List, [], ◌∷◌, ℕ, ◌+◌, ◌*◌, ◌<◌, ◌≤◌, min, arith}
-use Rattle.answer.specs.Lists.{joined}
+use Rattle.std.proofs.Common.{◌≡◌, refl, ap, List, ℕ, ◌+◌, ◌<◌, ◌≤◌, arith}
 use Rattle.answer.proofs.Lists.{joined_same}
 use Rattle.survey.specs.Table.{storeys}
 use Rattle.method.specs.Held.{most_held}

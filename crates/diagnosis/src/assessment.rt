@@ -6,8 +6,9 @@ use crate::accepted::{AcceptedTable, Direction, End};
 use crate::held::{BothDirections, HeldSums};
 use calendar::age_on;
 use method::{
-    Bands, Fraction, HousePart, MOST_HELD, Quotient, Strengths, after_repair, band, deterioration_factor,
-    floor_type, is_narrow, layout_factor, limited, narrow_factor, required_strength, score,
+    Bands, Fraction, HousePart, MOST_HELD, Quotient, Strengths, after_repair, band,
+    deterioration_factor, floor_type, is_narrow, layout_factor, limited, narrow_factor,
+    required_strength, score,
 };
 
 // Held strength in 0.000001 kN, required strength in 0.000000001 kN, layout factor in hundredths, score;

@@ -86,7 +86,10 @@ impl Step<'_> {
 fn print_record(rt: &impl Print, found: &Record) -> io::Result<()> {
     let verdict = u32::from(found.verdict);
     let started = u32::from(found.started_by_31_may_1981);
-    println!(rt; "scores {}, verdict {verdict}, started {started}", found.count)?;
+    println!(rt;
+        "scores {}, verdict {verdict}, started {started}",
+        found.count
+    )?;
     for (score, quotient) in found.scores.iter().zip(&found.quotients) {
         let Quotient {
             hundredths,

@@ -1,5 +1,5 @@
 -- What an accepted change says of the state before it, and what is answered and left. Assumes nothing.
-use Rattle.std.proofs.Common.{◌≡◌, refl, sym, ap, ◌∙◌, Bool, true, false, cond, List, ℕ, ◌+◌, ◌-◌, ◌<◌, arith, length}
+use Rattle.std.proofs.Common.{◌≡◌, refl, ap, ◌∙◌, Bool, true, false, cond, List, ℕ, ◌<◌, arith, length}
 use Rattle.answer.specs.Told.{Told, accepts}
 use Rattle.diagnosis.specs.Answers.{told_scored, told_refused, number_at, record_with}
 use Rattle.site.specs.Changes.{State, rows_of, checking, answered, left, addition, add_told, deletion, delete_told}

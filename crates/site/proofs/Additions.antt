@@ -1,5 +1,5 @@
 -- The tests of an addition, one after the other, and what holds where it passes them all. Assumes nothing.
-use Rattle.std.proofs.Common.{◌≡◌, refl, sym, ap, ◌∙◌, Bool, true, false, cond, Option, Some, None, List, ℕ, ◌+◌, ◌*◌, ◌/◌, ◌^◌, ◌<◌, ◌≤◌, arith, length, ltb, leb, lt-ltb, le-ltb, ltb-true, ltb-false}
+use Rattle.std.proofs.Common.{◌≡◌, refl, ap, Bool, true, false, cond, List, ℕ, ◌+◌, ◌/◌, ◌<◌, ◌≤◌, arith, length, ltb, leb, lt-ltb, le-ltb, ltb-false}
 use Rattle.std.proofs.lemmas.Bool.{le-leb, lt-leb}
 use borrow.Author.Tests.{leb-false}
 use native.Mathlib.Decide.{dec_lt, dec_le}
@@ -10,14 +10,10 @@ use Rattle.survey.specs.Ranges.{wall_ranges}
 use Rattle.survey.specs.Judgement.{new_wall_column}
 use Rattle.survey.specs.Acceptance.{Inside}
 use Rattle.survey.proofs.FaultlessRows.{leftmost_inside}
-use Rattle.diagnosis.specs.Rows.{house_of}
-use Rattle.diagnosis.specs.House.{row_share}
-use Rattle.method.specs.Held.{most_held}
-use Rattle.site.specs.Totals.{wall_total, total_added, some_above}
+use Rattle.site.specs.Totals.{total_added, some_above}
 use Rattle.site.specs.Changes.{row_taken, addition}
-use Rattle.site.specs.Internal.{InStoreys, moved}
+use Rattle.site.specs.Internal.{InStoreys}
 use Rattle.site.proofs.Checking.{refused_counts}
-use Rattle.site.proofs.SixTotals.{some_is_above, total_set, moved_some, moved_none}
 
 module _ (rows held wall : List ℕ) (lent : ℕ) where
   abbrev column : ℕ
@@ -61,7 +57,7 @@ module _ (rows held wall : List ℕ) (lent : ℕ) where
       go : (a : Bool) → ltb column 8 ≡ a → (b : Bool) → leb most_walls (wall_rows rows) ≡ b → (c : Bool) → ltb lent (length rows + 8) ≡ c
           → (d : Bool) → some_above (storeys rows) (total_added rows held wall) ≡ d
           → accepts (cond a (refusal out_of_range row (column + 1)) (cond b (refusal too_many_walls row 1)
-            (cond c (refusal lent_space_short 0 0) (cond d (refusal no_such_wall 0 0) (counted (length rows / 8 + 1)))))) ≡ true
+          (cond c (refusal lent_space_short 0 0) (cond d (refusal no_such_wall 0 0) (counted (length rows / 8 + 1)))))) ≡ true
           → Passes
       go true ea b eb c ec d ed e = absurd (refused_counts out_of_range row (column + 1) e)
       go false ea true eb c ec d ed e = absurd (refused_counts too_many_walls row 1 e)

@@ -1,5 +1,5 @@
 -- What is answered, and what is left, where a change is refused and where it is made. Assumes nothing.
-use Rattle.std.proofs.Common.{◌≡◌, refl, sym, ap, ◌∙◌, Bool, true, false, cond, Err}
+use Rattle.std.proofs.Common.{◌≡◌, sym, ap, ◌∙◌, Bool, true, false, cond, Err}
 use Rattle.answer.specs.declared.refusal.Refusal.{Refusal}
 use Rattle.answer.specs.Told.{Told, told, accepts, number_of}
 use Rattle.diagnosis.specs.Answers.{told_scored, told_record, told_refused, number_at, record_with}

@@ -1,15 +1,12 @@
 -- The theorems about changes, put by what is answered. Assumes nothing.
-use Rattle.std.proofs.Common.{◌≡◌, refl, sym, ap, ap₂, subst, ◌∙◌, Bool, true, false, T, List, [], ◌∷◌, ℕ, ◌+◌, ◌-◌, ◌*◌, ◌<◌, ◌≤◌, arith, length, drop, eqb→eq}
-use Rattle.answer.specs.Told.{Told, accepts, refusal, too_many_walls, lent_space_short, no_such_wall}
+use Rattle.std.proofs.Common.{◌≡◌, sym, ap, subst, ◌∙◌, true, false, T, List, ℕ, ◌+◌, ◌-◌, ◌*◌, ◌<◌, ◌≤◌, arith, length, drop, eqb→eq}
+use Rattle.answer.specs.Told.{Told, accepts, too_many_walls, lent_space_short, no_such_wall}
 use Rattle.answer.specs.Length.{most_walls}
 use Rattle.survey.specs.Table.{cell, is_wall, wall_rows}
-use Rattle.survey.specs.Judgement.{judging}
 use Rattle.survey.proofs.Acceptance.{accepted}
-use Rattle.diagnosis.specs.Answers.{ToldScoring, told_scored, told_refused, number_at, record_with, scoring}
-use Rattle.diagnosis.proofs.GivenStrengths.{record_own}
-use Rattle.site.specs.Changes.{State, rows_of, checking, answered, left, started, starting, after_starting, row_taken, add_told, with_wall, adding, after_adding, delete_told, without_wall, deleting, after_deleting}
-use Rattle.site.specs.Runs.{Change, add, delete, EightNumbers, change_told, answer_of, after, Own}
-use Rattle.site.proofs.Checking.{checked, checking_judged}
+use Rattle.diagnosis.specs.Answers.{told_refused, scoring}
+use Rattle.site.specs.Changes.{State, rows_of, checking, answered, started, starting, after_starting, row_taken, add_told, with_wall, adding, after_adding, delete_told, without_wall, deleting, after_deleting}
+use Rattle.site.specs.Runs.{Change, add, delete, EightNumbers, answer_of, after, Own}
 use Rattle.site.proofs.AcceptedChanges.{accepted_left, refused_left, answered_scored, answered_number, answered_refused, add_ready, delete_ready}
 use Rattle.site.proofs.PutBack as put_back
 use Rattle.site.proofs.Unread as unread
@@ -72,8 +69,8 @@ module _ (s : State) (own : Own s) where
         let serves = own_runs.place_serves s own row e wall eight in
         let left_is = accepted_left (delete_told s row) s (without_wall s row) e in
         let number : (n : ℕ) → 0 < n → (adding (after_deleting s row) wall).number ≡ n → (add_told (without_wall s row) wall).number ≡ n =
-            λ n some z. ap (λ (t : State). (add_told t wall).number) (sym left_is)
-              ∙ (answered_number (add_told (after_deleting s row) wall) (with_wall (after_deleting s row) wall) n some z).1 in
+        λ n some z. ap (λ (t : State). (add_told t wall).number) (sym left_is)
+        ∙ (answered_number (add_told (after_deleting s row) wall) (with_wall (after_deleting s row) wall) n some z).1 in
         (λ five. serves.0 (number too_many_walls (omega arith) five), λ nine. serves.1 (number lent_space_short (omega arith) nine))
 
 module _ (s : State) (wall : List ℕ) (eight : length wall ≡ 8) (scored : (adding s wall).scored ≡ true) where

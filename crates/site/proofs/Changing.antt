@@ -1,18 +1,16 @@
 -- What the code makes of a state: the refusal that is told, or the state with the wall or without it. Assumes nothing.
-use Rattle.std.proofs.Common.{◌≡◌, refl, sym, ap, subst, ◌∙◌, Bool, true, false, cond, Result, Ok, Err, List, [], ℕ, ◌+◌, ◌-◌, ◌*◌, ◌≤◌, ◌<◌, arith, length, ◌++◌}
+use Rattle.std.proofs.Common.{◌≡◌, refl, sym, ap, subst, ◌∙◌, Bool, true, false, cond, Err, List, ℕ, ◌+◌, ◌-◌, ◌*◌, ◌≤◌, ◌<◌, arith, length, ◌++◌}
 use Rattle.answer.specs.declared.refusal.Refusal.{Refusal}
 use Rattle.answer.specs.Told.{Told, told, accepts}
 use Rattle.answer.specs.Lists.{over}
-use Rattle.survey.specs.Table.{cell, storeys, rows_due}
+use Rattle.survey.specs.Table.{storeys, rows_due}
 use Rattle.survey.specs.Judgement.{judging}
-use Rattle.survey.specs.Acceptance.{Accepted}
 use Rattle.survey.proofs.Acceptance.{accepted}
 use Rattle.method.specs.declared.rows.House.{House}
 use Rattle.diagnosis.specs.declared.accepted.AcceptedTable.{AcceptedTable}
 use Rattle.diagnosis.specs.Rows.{house_of}
 use Rattle.diagnosis.specs.Premises.{HouseOf}
 use Rattle.diagnosis.proofs.AcceptedTables.{stands}
-use Rattle.site.specs.declared.plans.Plan.{Plan}
 use Rattle.site.specs.declared.changes.Changed.{Changed}
 use Rattle.site.specs.Internal.{Made}
 use Rattle.site.specs.Rows.{in_use, with_row, without_row}
@@ -22,10 +20,10 @@ use Rattle.diagnosis.specs.Answers.{six_numbers}
 use Rattle.site.proofs.OwnSums.{sums_within}
 use Rattle.site.specs.Changes.{State, on, rows_of, checking, started, row_taken, addition, add_told, with_wall, deletion, delete_told, without_wall, empty_row}
 use Rattle.site.proofs.Checking.{checked}
-use Rattle.site.proofs.PutRows.{Put, Stands, same_house}
+use Rattle.site.proofs.PutRows.{same_house}
 use Rattle.site.proofs.Additions as additions
 use Rattle.site.proofs.Deletions as deletions
-use Rattle.site.proofs.States.{Ready, add_fits, add_put, add_stands, add_rows, add_table_long, add_judged, Found, delete_fits, delete_put, delete_stands, delete_rows, delete_table_long, delete_judged, in_use_long}
+use Rattle.site.proofs.States.{Ready, add_fits, add_put, add_stands, add_rows, add_judged, Found, delete_fits, delete_put, delete_stands, delete_rows, delete_judged, in_use_long}
 
 -- A refusal of the rows in use is told first, whatever comes next.
 told_first : (tells next : Told) (r : Refusal) → told (Err r) ≡ tells → told (Err r) ≡ cond (accepts tells) next tells

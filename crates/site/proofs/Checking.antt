@@ -1,9 +1,8 @@
 -- The rows in use, checked. Assumes nothing.
-use Rattle.std.proofs.Common.{◌≡◌, refl, sym, ap, ◌∙◌, Bool, true, false, cond, List, ℕ, ◌*◌, ◌<◌, ◌≤◌, arith, length, ltb, lt-ltb, le-ltb, ltb-false, subst, T}
-use Rattle.answer.specs.Told.{Told, accepts, refusal, sheet_length}
+use Rattle.std.proofs.Common.{◌≡◌, refl, sym, ap, ◌∙◌, Bool, true, false, cond, ℕ, ◌*◌, ◌<◌, ◌≤◌, length, ltb, lt-ltb, le-ltb, ltb-false, subst, T}
+use Rattle.answer.specs.Told.{accepts, refusal, sheet_length}
 use Rattle.survey.specs.Judgement.{judging}
 use Rattle.survey.proofs.RefusalNumbers.{judging_accepts, accepted_number}
-use Rattle.site.specs.Rows.{in_use}
 use Rattle.site.specs.Changes.{State, rows_of, checking}
 
 -- A refusal is no count.

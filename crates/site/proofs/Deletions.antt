@@ -1,5 +1,5 @@
 -- The tests of a deletion, one after the other, and what holds where it passes them all. Assumes nothing.
-use Rattle.std.proofs.Common.{◌≡◌, refl, sym, ap, ◌∙◌, Bool, true, false, cond, not, ◌&&◌, ◌||◌, T, subst, Option, Some, None, List, ℕ, ◌+◌, ◌-◌, ◌*◌, ◌/◌, ◌<◌, ◌≤◌, arith, length, eqb, ltb, lt-ltb, le-ltb, ltb-true, ltb-false, eq-eqb, eqb→eq, ltb→lt}
+use Rattle.std.proofs.Common.{◌≡◌, refl, sym, ap, Bool, true, false, cond, not, ◌&&◌, ◌||◌, T, subst, Option, Some, None, List, ℕ, ◌-◌, ◌/◌, ◌<◌, ◌≤◌, arith, length, ltb, lt-ltb, le-ltb, ltb-false, eq-eqb, eqb→eq, ltb→lt}
 use mir.Facts.{and_yes}
 use Rattle.answer.specs.Told.{Told, accepts, counted, refusal, no_such_wall}
 use Rattle.survey.specs.Table.{cell, storeys, is_wall}
@@ -46,8 +46,8 @@ module _ (rows held : List ℕ) (row : ℕ) where
       go : (b : Bool) → stands ≡ b → ◌≡◌ {A = Option ℕ} None (cond b (Some (row - 1)) None)
           → refusal no_such_wall row 0
           ≡ cond (not b) (refusal no_such_wall row 0)
-            (cond (would_fall_below rows held (row - 1) || some_above (storeys rows) (total_taken rows held (row - 1))) (refusal no_such_wall 0 0)
-            (counted (length rows / 8 - 1)))
+          (cond (would_fall_below rows held (row - 1) || some_above (storeys rows) (total_taken rows held (row - 1))) (refusal no_such_wall 0 0)
+          (counted (length rows / 8 - 1)))
       go true f e = absurd (grind arith)
       go false f e = refl
 

@@ -1,5 +1,5 @@
 -- A record with its own sums keeps them, whatever is added and deleted. Assumes nothing.
-use Rattle.std.proofs.Common.{◌≡◌, refl, sym, ap, subst, ◌∙◌, Bool, true, false, cond, List, [], ◌∷◌, ℕ, ◌+◌, ◌-◌, ◌*◌, ◌<◌, ◌≤◌, arith, length, get_or, set, eqb, eq-eqb, eqb→eq}
+use Rattle.std.proofs.Common.{◌≡◌, refl, sym, ap, subst, ◌∙◌, Bool, true, false, cond, List, [], ◌∷◌, ℕ, ◌+◌, ◌-◌, ◌*◌, ◌<◌, ◌≤◌, arith, length, eqb, eq-eqb}
 use Rattle.std.proofs.lemmas.List.{length-set}
 use borrow.Author.Tests.{eqb-true, eqb-false}
 use Rattle.answer.specs.Told.{Told, accepts, refusal, too_many_walls, lent_space_short, no_such_wall}
@@ -7,12 +7,11 @@ use Rattle.answer.specs.Length.{most_walls}
 use Rattle.survey.specs.Table.{cell, storeys, wall_rows}
 use Rattle.survey.specs.Judgement.{judging, new_wall_column}
 use Rattle.survey.specs.Walls.{is_wall_of}
-use Rattle.survey.specs.Acceptance.{Accepted}
 use Rattle.survey.proofs.Acceptance.{accepted, made_accepted}
 use Rattle.survey.proofs.RefusalNumbers.{judging_accepts, accepted_number}
 use Rattle.diagnosis.specs.Rows.{house_of}
 use Rattle.diagnosis.specs.House.{InHouse, share, row_share, held}
-use Rattle.diagnosis.specs.Answers.{ToldScoring, told_scored, told_refused, six_numbers, score_at, number_at, record_with, record_of, recorded, scoring}
+use Rattle.diagnosis.specs.Answers.{told_scored, told_refused, six_numbers, score_at, number_at, record_with, record_of, scoring}
 use Rattle.diagnosis.proofs.AcceptedTables.{storeys_few}
 use Rattle.diagnosis.proofs.GivenStrengths.{SameInHouse, record_own}
 use Rattle.site.specs.Rows.{with_row, without_row}
@@ -21,7 +20,7 @@ use Rattle.site.specs.Changes.{State, rows_of, checking, started, starting, answ
 use Rattle.site.specs.Runs.{Change, add, delete, EightNumbers, change_told, answer_of, after, after_run, AllEightNumbers, Own}
 use Rattle.site.proofs.SixTotals.{total_set, total_other}
 use Rattle.site.proofs.Checking.{checked, checking_judged, checking_accepts}
-use Rattle.site.proofs.PutRows.{Put, Stands, same_house}
+use Rattle.site.proofs.PutRows.{same_house}
 use Rattle.site.proofs.States.{in_use_long, Ready, add_ranged, add_numbers, add_kind, add_put, add_stands, add_made, add_rows, add_table_long, add_fits, add_judged, Found, delete_put, delete_stands, delete_made, delete_ranged, delete_rows, delete_table_long, delete_fits, delete_judged}
 use Rattle.site.proofs.OwnSums.{own_within, sums_six, sums_own}
 use Rattle.site.proofs.Additions as additions
@@ -107,8 +106,12 @@ module _ (s : State) (wall : List ℕ) (t : Ready s wall) where
         rw (← e, ← f) (is ∙ omega (arith, rw (← e, ← f) at (own.sums storey direction before), rw (← e, ← f) at put, counts_placed)))
         (λ other.
         total_other sums own.six st d total place.0 (omega arith) way.0 way.1 (score_at storey direction) (λ e. other (omega (arith, here)) (omega (arith, here)))
-        ∙ omega (arith, own.sums storey direction before, put,
-        counts_not B at (add_kind s wall t) storey direction (λ e f. other (sym (add_numbers s wall t 1 (omega arith)) ∙ e) (sym (add_numbers s wall t 2 (omega arith)) ∙ f))))
+        ∙ omega (
+          arith,
+          own.sums storey direction before,
+          put,
+          counts_not B at (add_kind s wall t) storey direction (λ e f. other (sym (add_numbers s wall t 1 (omega arith)) ∙ e) (sym (add_numbers s wall t 2 (omega arith)) ∙ f)),
+        ))
 
     added_six : length (total_added A s.totals.held wall) ≡ 6
     unfolding total_added
@@ -329,9 +332,17 @@ module _ (s : State) (own : Own s) (row : ℕ) where
       let numbers = add_numbers_told (without_wall s row) next wall eight in
       let add = add_is (without_wall s row) next wall in
       let fewer : wall_rows (rows_of (without_wall s row)) + 1 ≡ wall_rows (rows_of s) =
-          omega (arith, ap wall_rows (delete_rows s row f), (delete_stands s row f).walls_more) in
-      let most = (accepted (rows_of s) own.rows_accepted).few in
-      (λ five. omega (arith, numbers.walls (ap (λ (t : Told). t.number) add ∙ five), fewer, most),
-      λ nine.
-      omega (arith, numbers.space (ap (λ (t : Told). t.number) add ∙ nine), in_use_long (without_wall s row) next.fits, count_left s row, delete_fits s row f, delete_table_long s row f,
-      own.fits))
+      omega (arith, ap wall_rows (delete_rows s row f), (delete_stands s row f).walls_more) in
+      let most = (accepted (rows_of s) own.rows_accepted).few in (
+        λ five. omega (arith, numbers.walls (ap (λ (t : Told). t.number) add ∙ five), fewer, most),
+        λ nine.
+            omega (
+              arith,
+              numbers.space (ap (λ (t : Told). t.number) add ∙ nine),
+              in_use_long (without_wall s row) next.fits,
+              count_left s row,
+              delete_fits s row f,
+              delete_table_long s row f,
+              own.fits,
+            ),
+      )

@@ -1,10 +1,9 @@
 -- Six totals that are the sums over a house's walls. Assumes nothing.
-use Rattle.std.proofs.Common.{◌≡◌, refl, sym, ap, ◌∙◌, Bool, true, false, List, ℕ, ◌+◌, ◌-◌, ◌*◌, ◌/◌, ◌%◌, ◌<◌, ◌≤◌, arith, length, get_or}
+use Rattle.std.proofs.Common.{◌≡◌, refl, ap, false, List, ℕ, ◌+◌, ◌*◌, ◌/◌, ◌%◌, arith, length, get_or}
 use Rattle.answer.proofs.Lists.{over_length, joined_length}
 use Rattle.survey.specs.Table.{storeys}
 use Rattle.survey.specs.Judgement.{judging}
-use Rattle.method.specs.Held.{most_held}
-use Rattle.diagnosis.specs.House.{InHouse, held, storey_by_storey}
+use Rattle.diagnosis.specs.House.{held, storey_by_storey}
 use Rattle.diagnosis.specs.Answers.{no_numbers, six_numbers, score_at, number_at}
 use Rattle.diagnosis.proofs.AcceptedTables.{storeys_few}
 use Rattle.diagnosis.proofs.Sums.{storey_held_most}

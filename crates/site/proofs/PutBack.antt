@@ -1,28 +1,21 @@
 -- An added wall deleted again; a deleted wall's place; and what no change touches. Assumes nothing.
-use Rattle.std.proofs.Common.{◌≡◌, refl, sym, ap, ap₂, subst, ◌∙◌, Bool, true, false, cond, List, [], ◌∷◌, ◌++◌, ℕ, ◌+◌, ◌-◌, ◌*◌, ◌/◌, ◌<◌, ◌≤◌, arith, length, get_or, set, take, drop}
-use Rattle.std.proofs.lemmas.List.{length-set, set-get_or, get_or-set_other}
+use Rattle.std.proofs.Common.{◌≡◌, refl, sym, ap, ap₂, ◌∙◌, true, false, List, ℕ, ◌+◌, ◌-◌, ◌*◌, ◌<◌, ◌≤◌, arith, length, get_or, set}
+use Rattle.std.proofs.lemmas.List.{length-set, set-get_or}
 use Rattle.std.proofs.Math.Seq.{set-set}
 use native.Mathlib.Decide.{dec_lt}
-use Rattle.answer.specs.Told.{Told, accepts, refusal, too_many_walls, lent_space_short, no_such_wall}
-use Rattle.answer.specs.Length.{most_walls}
-use Rattle.survey.specs.Table.{cell, storeys, wall_rows}
-use Rattle.survey.specs.Judgement.{judging}
-use Rattle.survey.specs.Acceptance.{Accepted}
-use Rattle.survey.proofs.Acceptance.{accepted}
+use Rattle.answer.specs.Told.{accepts}
+use Rattle.survey.specs.Table.{cell, storeys}
 use Rattle.method.specs.Held.{most_held}
 use Rattle.diagnosis.specs.Rows.{house_of}
 use Rattle.diagnosis.specs.House.{row_share}
 use Rattle.diagnosis.specs.Answers.{score_at, number_at}
 use Rattle.diagnosis.proofs.AcceptedTables.{storeys_few}
-use Rattle.site.specs.declared.totals.Totals.{Totals}
 use Rattle.site.specs.Rows.{with_row, without_row}
-use Rattle.site.specs.Totals.{wall_total, with_total, total_added, total_taken, some_above}
-use Rattle.site.specs.Changes.{State, on, rows_of, checking, left, row_taken, addition, add_told, with_wall, deletion, delete_told, without_wall}
+use Rattle.site.specs.Totals.{wall_total, total_added, total_taken, some_above}
+use Rattle.site.specs.Changes.{State, rows_of, checking, row_taken, add_told, with_wall, deletion, delete_told, without_wall}
 use Rattle.site.proofs.SixTotals.{total_set, total_other, none_above, all_within}
-use Rattle.site.proofs.Checking.{checked, checking_accepts}
-use Rattle.site.proofs.PutRows.{Put, Stands}
+use Rattle.site.proofs.Checking.{checking_accepts}
 use Rattle.site.proofs.PutLists.{put_back}
-use Rattle.site.proofs.Additions as additions
 use Rattle.site.proofs.Deletions as deletions
 use Rattle.site.proofs.States.{Ready, add_ranged, add_numbers, add_kind, add_put, add_stands, add_rows, add_table_long, add_fits, add_judged, Found, delete_rows}
 use Rattle.site.proofs.Changing.{count_with, delete_next}

@@ -1,5 +1,5 @@
 -- A row put in and taken out, as lists. Assumes nothing.
-use Rattle.std.proofs.Common.{◌≡◌, refl, sym, ap, ◌∙◌, List, [], ◌∷◌, ◌++◌, ℕ, zero, suc, ◌+◌, ◌-◌, ◌*◌, ◌<◌, ◌≤◌, append_assoc, arith, length, get_or, take, drop, length-append}
+use Rattle.std.proofs.Common.{◌≡◌, refl, sym, ap, ◌∙◌, List, ◌++◌, ℕ, ◌+◌, ◌-◌, ◌*◌, ◌<◌, ◌≤◌, append_assoc, arith, length, get_or, take, drop, length-append}
 use Rattle.std.proofs.lemmas.List.{get_or-take, get_or-drop, get_or-append_right, length-take, length-drop, drop-drop, take-append-drop}
 use Rattle.std.proofs.Math.Seq.{take-append_seam, drop-append_seam}
 use lib.ListN.{get_or-append}
@@ -34,8 +34,13 @@ module _ (rows : List ℕ) (row : ℕ) (numbers : List ℕ) (fits : 8 * row ≤ 
         (get_or-take (8 * row) rows (8 * k + column) 0 (omega arith));
     after = λ k l column small.
         let place : 8 * row + (8 * (k + 1) + column - 8 * row - 8) ≡ 8 * k + column = omega arith in
-        rw (append_assoc, get_or-append_right (take (8 * row) rows) (numbers ++ drop (8 * row) rows) (8 * row) (8 * (k + 1) + column) 0 front_long (omega arith),
-          get_or-append_right numbers (drop (8 * row) rows) 8 (8 * (k + 1) + column - 8 * row) 0 eight (omega arith), get_or-drop, place)
+        rw (
+          append_assoc,
+          get_or-append_right (take (8 * row) rows) (numbers ++ drop (8 * row) rows) (8 * row) (8 * (k + 1) + column) 0 front_long (omega arith),
+          get_or-append_right numbers (drop (8 * row) rows) 8 (8 * (k + 1) + column - 8 * row) 0 eight (omega arith),
+          get_or-drop,
+          place,
+        )
         refl;
   }
 
@@ -46,9 +51,9 @@ module _ (rows : List ℕ) (row : ℕ) (numbers : List ℕ) (fits : 8 * row ≤ 
       let front = take (8 * row) rows in
       let rest = drop (8 * row) rows in
       let first : take (8 * row) (front ++ (numbers ++ rest)) ≡ front =
-          ap (λ (n : ℕ). take n (front ++ (numbers ++ rest))) (sym front_long) ∙ take-append_seam front (numbers ++ rest) in
+      ap (λ (n : ℕ). take n (front ++ (numbers ++ rest))) (sym front_long) ∙ take-append_seam front (numbers ++ rest) in
       let behind : drop (8 * row) (front ++ (numbers ++ rest)) ≡ numbers ++ rest =
-          ap (λ (n : ℕ). drop n (front ++ (numbers ++ rest))) (sym front_long) ∙ drop-append_seam front (numbers ++ rest) in
+      ap (λ (n : ℕ). drop n (front ++ (numbers ++ rest))) (sym front_long) ∙ drop-append_seam front (numbers ++ rest) in
       let last : drop 8 (numbers ++ rest) ≡ rest = ap (λ (n : ℕ). drop n (numbers ++ rest)) (sym eight) ∙ drop-append_seam numbers rest in
       rw (append_assoc, first, ← drop-drop 8 (8 * row) (front ++ (numbers ++ rest)), behind, last) (take-append-drop (8 * row) rows)
 

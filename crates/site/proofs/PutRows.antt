@@ -1,5 +1,5 @@
 -- Rows with one row put in: where they stand, and when they are accepted. Assumes nothing.
-use Rattle.std.proofs.Common.{◌≡◌, refl, sym, ap, subst, ◌∙◌, Bool, true, false, not, List, ℕ, zero, suc, ◌+◌, ◌-◌, ◌*◌, ◌<◌, ◌≤◌, arith, length, get_or, eqb, eq-eqb, ne_eqb}
+use Rattle.std.proofs.Common.{◌≡◌, sym, subst, ◌∙◌, not, List, ℕ, ◌+◌, ◌-◌, ◌*◌, ◌<◌, ◌≤◌, arith, length, eq-eqb, ne_eqb}
 use native.Mathlib.Decide.{dec_lt}
 use Rattle.answer.specs.Length.{most_walls}
 use Rattle.answer.proofs.Places.{first_is}

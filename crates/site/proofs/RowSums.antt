@@ -1,8 +1,8 @@
 -- What a storey holds in a direction as a sum over all rows, and that sum with one row put in. Assumes nothing.
-use Rattle.std.proofs.Common.{◌≡◌, refl, sym, ap, ◌∙◌, Bool, true, false, cond, List, ℕ, zero, suc, ◌+◌, ◌-◌, ◌*◌, ◌/◌, ◌<◌, ◌≤◌, add-zero, add-suc, le_refl, add-one, arith, length, eqb, eq-eqb}
-use Rattle.survey.specs.Table.{cell, storeys, is_wall, first_wall, wall_rows, parts_row, rows_due}
+use Rattle.std.proofs.Common.{◌≡◌, refl, sym, ap, Bool, true, false, cond, List, ℕ, zero, suc, ◌+◌, ◌-◌, ◌/◌, ◌<◌, ◌≤◌, add-zero, add-suc, le_refl, add-one, arith, length, eqb}
+use Rattle.survey.specs.Table.{cell, rows_due}
 use Rattle.survey.specs.Judgement.{judging}
-use Rattle.survey.specs.Walls.{rows_from, is_wall_of, storey_walls}
+use Rattle.survey.specs.Walls.{rows_from, is_wall_of}
 use Rattle.survey.specs.Acceptance.{Accepted}
 use Rattle.survey.proofs.Acceptance.{accepted}
 use Rattle.survey.proofs.StoreyWalls.{Shown, shown, is_taken, rows_cell, rows_length}
@@ -42,8 +42,16 @@ sum_put : (f g : ℕ → ℕ) (at n : ℕ) → at ≤ n → ((k : ℕ) → k < a
 sum_put f g at n most before after =
     let all : n ≡ at + (n - at) = omega arith in
     let more : n + 1 ≡ suc at + (n - at) = omega arith in
-    omega (arith, ap (sum_to g) more, sum_split g (suc at) (n - at), sum_more g at, sum_same f g at before, ap (sum_to f) all, sum_split f at (n - at),
-      sum_same (λ k. f (at + k)) (λ k. g (suc at + k)) (n - at) (λ k l. next k))
+    omega (
+      arith,
+      ap (sum_to g) more,
+      sum_split g (suc at) (n - at),
+      sum_more g at,
+      sum_same f g at before,
+      ap (sum_to f) all,
+      sum_split f at (n - at),
+      sum_same (λ k. f (at + k)) (λ k. g (suc at + k)) (n - at) (λ k l. next k),
+    )
   where
     next : (k : ℕ) → g (suc at + k) ≡ f (at + k)
     next k =
@@ -108,10 +116,17 @@ module _ (table : List ℕ) (h : (judging table).number ≡ 0) (storey direction
       let fits = s.fits in
       let all : rows_due table ≡ s.start + s.count + rest = omega arith in
       let f = counted table storey direction in
-      rw (s.walls, count, run_sum s.count (le_refl _), all, sum_split f (s.start + s.count) rest, sum_split f s.start s.count,
+      rw (
+        s.walls,
+        count,
+        run_sum s.count (le_refl _),
+        all,
+        sum_split f (s.start + s.count) rest,
+        sum_split f s.start s.count,
         sum_none f s.start (λ k l. row_none k (omega arith) (λ e. omega arith)),
         sum_none (λ k. f (s.start + s.count + k)) rest (λ k l. row_none _ (omega arith) (λ e. omega arith)),
-        sum_same (λ k. one_counts (s.start + k)) (λ k. f (s.start + k)) s.count row_counts)
+        sum_same (λ k. one_counts (s.start + k)) (λ k. f (s.start + k)) s.count row_counts,
+      )
       (omega arith)
 
 -- With one row put in.

@@ -1,13 +1,13 @@
 -- The states that an addition and a deletion make: their rows in use, which are accepted. Assumes nothing.
-use Rattle.std.proofs.Common.{◌≡◌, refl, sym, ap, subst, ◌∙◌, Bool, true, false, cond, List, [], ◌∷◌, ◌++◌, ℕ, ◌+◌, ◌-◌, ◌*◌, ◌/◌, ◌<◌, ◌≤◌, arith, length, get_or, take, drop, length-append}
-use Rattle.std.proofs.lemmas.List.{length-take, take-take, take-append-le}
+use Rattle.std.proofs.Common.{◌≡◌, sym, ap, subst, ◌∙◌, List, [], ◌++◌, ℕ, ◌+◌, ◌-◌, ◌*◌, ◌/◌, ◌<◌, ◌≤◌, arith, length, take, drop, length-append}
+use Rattle.std.proofs.lemmas.List.{length-take, take-append-le}
 use Rattle.std.proofs.Math.Seq.{take-append_seam}
 use native.Mathlib.Decide.{dec_le}
-use Rattle.answer.specs.Told.{Told, accepts}
+use Rattle.answer.specs.Told.{Told}
 use Rattle.answer.specs.Length.{most_walls}
 use Rattle.answer.specs.Lists.{over}
 use Rattle.answer.proofs.Lists.{over_length}
-use Rattle.survey.specs.Table.{cell, storeys, first_wall, wall_rows, parts_row, rows_due}
+use Rattle.survey.specs.Table.{cell, storeys, first_wall, wall_rows, parts_row}
 use Rattle.survey.specs.declared.ranges.Range.{Range}
 use Rattle.survey.specs.Ranges.{wall_ranges, wall_columns}
 use Rattle.survey.specs.Judgement.{judging, new_wall_column}
@@ -15,7 +15,7 @@ use Rattle.survey.specs.Acceptance.{Inside, Accepted}
 use Rattle.survey.proofs.Positions.{beyond}
 use Rattle.survey.proofs.Acceptance.{accepted, made_accepted}
 use Rattle.survey.proofs.StoreyWalls.{wall_stands}
-use Rattle.site.specs.Rows.{in_use, with_row, without_row, row_due}
+use Rattle.site.specs.Rows.{with_row, without_row}
 use Rattle.site.specs.Changes.{State, rows_of, row_taken, with_wall, without_wall, empty_row}
 use Rattle.site.proofs.DueRows.{row_due_most, row_due_above, row_due_below}
 use Rattle.site.proofs.PutRows.{Put, Stands, stands_put, put_accepted, stands_taken, taken_accepted}

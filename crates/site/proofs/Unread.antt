@@ -1,15 +1,11 @@
 -- Rows beyond those in use aren't read, and stay where no row moves over them. Assumes nothing.
-use Rattle.std.proofs.Common.{◌≡◌, refl, sym, ap, ap₂, ◌∙◌, Bool, true, false, cond, List, [], ◌∷◌, ◌++◌, ℕ, ◌+◌, ◌-◌, ◌*◌, ◌≤◌, ◌<◌, arith, length, take, drop, ltb, length-append}
+use Rattle.std.proofs.Common.{◌≡◌, refl, sym, ap, ◌∙◌, Bool, true, false, cond, List, [], ◌∷◌, ◌++◌, ℕ, ◌+◌, ◌-◌, ◌*◌, length, drop}
 use Rattle.std.proofs.Math.Seq.{drop-append_seam}
-use Rattle.std.proofs.lemmas.List.{length-take, length-drop, drop-drop}
-use Rattle.answer.specs.Told.{Told, accepts, refusal, sheet_length}
+use Rattle.answer.specs.Told.{Told, accepts}
 use Rattle.answer.specs.Lists.{over}
-use Rattle.survey.specs.Judgement.{judging}
-use Rattle.diagnosis.specs.Answers.{ToldScoring, told_scored, told_refused, number_at, record_with, recorded}
-use Rattle.site.specs.declared.totals.Totals.{Totals}
-use Rattle.site.specs.Rows.{in_use, with_row, without_row}
-use Rattle.site.specs.Totals.{total_added, total_taken}
-use Rattle.site.specs.Changes.{State, rows_of, checking, started, starting, answered, left, row_taken, addition, add_told, with_wall, deletion, delete_told, without_wall, empty_row}
+use Rattle.diagnosis.specs.Answers.{told_scored, told_refused, number_at, record_with}
+use Rattle.site.specs.Rows.{with_row, without_row}
+use Rattle.site.specs.Changes.{State, rows_of, checking, started, starting, answered, left, row_taken, add_told, with_wall, delete_told, without_wall, empty_row}
 use Rattle.site.specs.Runs.{Change, add, delete, EightNumbers, answer_of, after, after_run, AllEightNumbers, Alike}
 use Rattle.site.proofs.States.{Ready, add_rows, add_table_long, add_long, Found, delete_rows, delete_table_long, delete_long}
 use Rattle.site.proofs.AcceptedChanges.{add_ready, delete_ready}

@@ -1,6 +1,6 @@
 -- What changes on site, and what is answered. Document 02, request 7: "the running totals are updated within the caller's own record"; "The record also
 -- counts the rows in use, and rows beyond them aren't read". Rows count from 0 here, but for the row to delete and the rows that are told.
-use Rattle.std.specs.Prelude.{ℕ, ◌+◌, ◌-◌, ◌*◌, ◌/◌, Bool, cond, not, ◌&&◌, ◌||◌, List, [], ◌∷◌, ◌++◌, length, eqb, ltb, leb}
+use Rattle.std.specs.Prelude.{ℕ, ◌+◌, ◌-◌, ◌*◌, ◌/◌, cond, not, ◌&&◌, ◌||◌, List, [], ◌∷◌, ◌++◌, length, ltb, leb}
 use Rattle.answer.specs.Told.{Told, accepts, counted, refusal, sheet_length, out_of_range, too_many_walls, lent_space_short, no_such_wall}
 use Rattle.answer.specs.Length.{most_walls}
 use Rattle.answer.specs.Lists.{over}

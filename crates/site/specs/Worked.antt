@@ -1,8 +1,8 @@
 -- What the examples speak of: P1 (document 01, "Houses worked through") on site, with two rows behind those in use, and a house of two storeys.
-use Rattle.std.specs.Prelude.{List, [], ◌∷◌, ◌++◌, ℕ, take, map, set}
+use Rattle.std.specs.Prelude.{List, [], ◌∷◌, ◌++◌, ℕ, take, drop, map, set}
 use Rattle.answer.specs.Told.{Told, counted, refusal}
-use Rattle.answer.specs.Houses.{p1, two_storeys}
-use Rattle.site.specs.Changes.{State, on, with_wall, without_wall, checking, add_told, delete_told}
+use Rattle.answer.specs.Houses.{p1}
+use Rattle.site.specs.Changes.{State, on, checking, add_told, delete_told, empty_row}
 use Rattle.site.specs.Runs.{Change, add, delete}
 
 -- Two rows of fives, which no row in use is.
@@ -78,3 +78,20 @@ expected_deletions =
 -- Changes one after the other: the wall is added, a wall of a storey that the house lacks is not, and the window is deleted.
 abbrev pub worked_run : List Change
 worked_run = add (middle_wall 1) ∷ add (middle_wall 2) ∷ delete 6 ∷ []
+
+-- The states after them: with the wall, and with the window gone too.
+abbrev pub site_wider : State
+site_wider = on (p1_wider ++ drop 8 behind) (record { held = 13_200_000 ∷ 16_000_000 ∷ 0 ∷ 0 ∷ 0 ∷ 0 ∷ []; rows = 13 })
+
+abbrev pub site_after : State
+site_after =
+    on (take 40 p1
+    ++ (4 ∷ 1 ∷ 1 ∷ 3 ∷ 20 ∷ 2000 ∷ 1 ∷ 1
+    ∷ 4 ∷ 1 ∷ 2 ∷ 1 ∷ 20 ∷ 2000 ∷ 1 ∷ 1
+    ∷ 4 ∷ 1 ∷ 2 ∷ 2 ∷ 20 ∷ 4000 ∷ 1 ∷ 1
+    ∷ 4 ∷ 1 ∷ 2 ∷ 3 ∷ 20 ∷ 2000 ∷ 1 ∷ 1
+    ∷ 4 ∷ 1 ∷ 1 ∷ 2 ∷ 20 ∷ 2000 ∷ 1 ∷ 1
+    ∷ 5 ∷ 8191 ∷ 8 ∷ 0 ∷ 0 ∷ 0 ∷ 0 ∷ 0
+    ∷ 8 ∷ 19800401 ∷ 19801001 ∷ 20120401 ∷ 0 ∷ 0 ∷ 0 ∷ 0
+    ∷ []) ++ empty_row ++ drop 8 behind)
+    (record { held = 12_000_000 ∷ 16_000_000 ∷ 0 ∷ 0 ∷ 0 ∷ 0 ∷ []; rows = 12 })

@@ -74,11 +74,7 @@ pub(crate) fn with_wall(
 }
 
 // Deletes a wall, by its row from 1.
-pub(crate) fn without_wall(
-    totals: Totals,
-    table: &mut [u32],
-    row: u32,
-) -> Result<Changed, Refusal>
+pub(crate) fn without_wall(totals: Totals, table: &mut [u32], row: u32) -> Result<Changed, Refusal>
     ensures made { IfOk result (λ changed. (accepts (delete_told (on table.old totals) row) ≡ true)
         × (table.new ≡ (without_wall (on table.old totals) row).table) × Made changed (without_wall (on table.old totals) row)) }
     ensures refused { IfErr result (λ refused. (told (Err refused) ≡ delete_told (on table.old totals) row) × (table.new ≡ table.old)) }

@@ -1,7 +1,6 @@
 -- What a row without a fault holds: every number lies in its column's range. Assumes nothing.
 use Rattle.std.proofs.Common.{◌≡◌, refl, subst, Bool, true, false, cond, ◌||◌, List, ℕ, ◌<◌, ◌≤◌, le_refl, arith, T, ltb, get_or, ltb-true, ltb-false}
 use Rattle.answer.specs.Told.{row_out_of_order}
-use Rattle.answer.specs.First.{first}
 use Rattle.answer.proofs.Places.{before_first, first_none}
 use Rattle.survey.specs.Table.{cell, storeys}
 use Rattle.survey.specs.declared.ranges.Range.{Range}

@@ -1,9 +1,7 @@
 -- `started` meets its contract. Assumes nothing.
-use Rattle.std.proofs.Common.{◌≡◌, ◌∙◌, sym, ap, refl, false, List, ℕ, ◌*◌, ◌≤◌, length, arith}
-use Rattle.survey.specs.Table.{storeys}
+use Rattle.std.proofs.Common.{◌≡◌, ◌*◌, ◌≤◌, length, arith}
 use Rattle.diagnosis.specs.Premises.{HouseOf}
-use Rattle.site.specs.Totals.{some_above}
-use Rattle.site.specs.Changes.{State, on, rows_of, checking, started}
+use Rattle.site.specs.Changes.{State, on, rows_of, started}
 use Rattle.site.proofs.Checking.{checked}
 use Rattle.site.proofs.Changing.{count_is, stored_house, stored_rows, stored_within, stored_made, start_state, start_house, start_within}
 use Rattle.site.proofs.changes.started.Goals as goal

@@ -1,5 +1,5 @@
 -- `with_wall` meets its contract. Assumes nothing.
-use Rattle.std.proofs.Common.{◌≡◌, ◌∙◌, refl, false, Err, rules, ◌+◌, ◌*◌, ◌≤◌, length, arith}
+use Rattle.std.proofs.Common.{◌≡◌, refl, false, Err, rules, ◌+◌, ◌*◌, ◌≤◌, length, arith}
 use Rattle.survey.specs.Table.{storeys}
 use Rattle.diagnosis.specs.Premises.{HouseOf}
 use Rattle.site.specs.Totals.{some_above}

@@ -1,5 +1,4 @@
 -- `insert` meets its contract. Assumes nothing.
-use Rattle.std.proofs.Common.{◌≡◌, ◌∙◌}
 use Rattle.site.proofs.MovedRows.{row_in}
 use Rattle.site.proofs.moves.insert.Goals as goal
 

@@ -1,5 +1,5 @@
 -- `put_in_front` meets its contract. Assumes nothing.
-use Rattle.std.proofs.Common.{◌≡◌, ◌∙◌, sym, refl, ◌+◌, ◌-◌, length, get_or, arith}
+use Rattle.std.proofs.Common.{◌≡◌, ◌∙◌, sym, refl, ◌+◌, ◌-◌, get_or, arith}
 use Rattle.site.proofs.MovedRows.{put_in, put_in_long, put_in_row, put_in_part, back_more, front_less, all_new}
 use Rattle.site.proofs.moves.put_in_front.Goals as goal
 use Rattle.site.proofs.moves.put_in_front.Goals.{then-at-lt-ROW, else-at-lt-ROW}
@@ -10,8 +10,9 @@ loop-at-init c = record { before = λ k below. refl; later = λ k past below. ab
 -- The number that is written.
 written : (c : goal.Joined-at-lt-ROW) → c.if-at-lt-ROW.part ≡ get_or (put_in c.args.row.now c.args.part.now) (c.loop-at.at - 1) 0
 written c = elim c.if-at-lt-ROW.branch [
-    then-at-lt-ROW w ↦ w.part-is ∙ put_in_row _ _ c.told-row _ (omega arith) (omega arith)
-  | else-at-lt-ROW w ↦ w.part-is ∙ c.loop-at.invariant.before _ (omega arith) ∙ put_in_part _ _ c.told-row _ (omega arith) (omega arith) ]
+  | then-at-lt-ROW w ↦ w.part-is ∙ put_in_row _ _ c.told-row _ (omega arith) (omega arith)
+  | else-at-lt-ROW w ↦ w.part-is ∙ c.loop-at.invariant.before _ (omega arith) ∙ put_in_part _ _ c.told-row _ (omega arith) (omega arith)
+]
 
 pub loop-at-preserved : goal.loop-at-preserved
 loop-at-preserved c =

@@ -1,5 +1,4 @@
 -- `remove` meets its contract. Assumes nothing.
-use Rattle.std.proofs.Common.{◌≡◌, ◌∙◌}
 use Rattle.site.proofs.MovedRows.{row_out}
 use Rattle.site.proofs.moves.remove.Goals as goal
 

@@ -1,5 +1,5 @@
 -- `take_from_front` meets its contract. Assumes nothing.
-use Rattle.std.proofs.Common.{◌≡◌, ◌∙◌, sym, refl, length, get_or, arith}
+use Rattle.std.proofs.Common.{◌≡◌, ◌∙◌, sym, refl, get_or, arith}
 use Rattle.site.proofs.MovedRows.{taken_out, taken_out_long, taken_out_part, taken_out_end, front_more, back_less, all_new}
 use Rattle.site.proofs.moves.take_from_front.Goals as goal
 use Rattle.site.proofs.moves.take_from_front.Goals.{then-next-length, else-next-length}
@@ -10,8 +10,9 @@ loop-at-init c = record { before = λ k below. absurd (omega arith); later = λ 
 -- The number that is written.
 written : (c : goal.Joined-next-length) → c.if-next-length.part ≡ get_or (taken_out c.args.part.now) c.loop-at.at 0
 written c = elim c.if-next-length.branch [
-    then-next-length w ↦ w.part-is ∙ c.loop-at.invariant.later _ (omega arith) (omega arith) ∙ taken_out_part c.args.part.now c.loop-at.at (omega arith) (omega arith)
-  | else-next-length w ↦ w.part-is ∙ taken_out_end c.args.part.now c.loop-at.at (omega arith) (omega arith) ]
+  | then-next-length w ↦ w.part-is ∙ c.loop-at.invariant.later _ (omega arith) (omega arith) ∙ taken_out_part c.args.part.now c.loop-at.at (omega arith) (omega arith)
+  | else-next-length w ↦ w.part-is ∙ taken_out_end c.args.part.now c.loop-at.at (omega arith) (omega arith)
+]
 
 pub loop-at-preserved : goal.loop-at-preserved
 loop-at-preserved c =

@@ -1,10 +1,9 @@
 -- `checked` meets its contract. Assumes nothing.
-use Rattle.std.proofs.Common.{◌≡◌, ◌∙◌, sym, ap, refl, true, Result, Ok, Err, IfOk, IfErr, List, ℕ, ◌*◌, ◌≤◌, length, arith}
+use Rattle.std.proofs.Common.{◌≡◌, ◌∙◌, sym, true, Result, Ok, Err, IfOk, IfErr, ◌*◌, ◌≤◌, length, arith}
 use Rattle.answer.specs.declared.refusal.Refusal.{Refusal}
 use Rattle.answer.specs.Told.{told, accepts}
 use Rattle.survey.specs.Judgement.{judging}
 use Rattle.diagnosis.specs.declared.accepted.AcceptedTable.{AcceptedTable}
-use Rattle.site.specs.Rows.{in_use}
 use Rattle.site.specs.Changes.{State, on, rows_of, checking}
 use Rattle.site.proofs.Checking.{checking_long, checking_judged, checking_accepts}
 use Rattle.site.proofs.plans.checked.Goals as goal

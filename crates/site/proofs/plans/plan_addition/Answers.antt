@@ -1,9 +1,9 @@
 -- `plan_addition` meets its contract. Assumes nothing.
-use Rattle.std.proofs.Common.{◌≡◌, ◌∙◌, sym, ap, refl, true, Option, Some, None, SomeIff, List, [], ℕ, ◌+◌, ◌*◌, ◌^◌, ◌<◌, ◌≤◌, length, arith}
+use Rattle.std.proofs.Common.{◌≡◌, ◌∙◌, sym, ap, true, Option, None, SomeIff, List, [], ℕ, ◌+◌, ◌*◌, ◌^◌, ◌<◌, ◌≤◌, length, arith}
 use native.Mathlib.Decide.{dec_lt}
 use Rattle.answer.specs.Told.{accepts}
-use Rattle.survey.specs.Table.{cell, storeys, wall_rows, parts_row, first_wall, rows_due}
-use Rattle.survey.specs.Judgement.{judging, place_below, new_wall_column}
+use Rattle.survey.specs.Table.{storeys}
+use Rattle.survey.specs.Judgement.{place_below, new_wall_column}
 use Rattle.survey.specs.Acceptance.{Accepted}
 use Rattle.survey.proofs.FirstInRange.{none_below, some_below}
 use Rattle.survey.proofs.Acceptance.{accepted}
@@ -12,7 +12,6 @@ use Rattle.diagnosis.specs.Rows.{house_of}
 use Rattle.diagnosis.specs.House.{row_share}
 use Rattle.site.specs.Rows.{row_due}
 use Rattle.site.specs.Totals.{wall_total, with_total, total_added, some_above}
-use Rattle.site.specs.Changes.{row_taken, addition}
 use Rattle.site.specs.Internal.{InStoreys, moved}
 use Rattle.site.proofs.DueRows.{row_due_most}
 use Rattle.site.proofs.SixTotals.{too_large, three_storeys, set_is, set_refused}
@@ -99,20 +98,23 @@ unfolding total_added
 returns-in-Some-moved-clause-planned c =
     let rows = c.args.rows.now in
     let worked : SomeIff c.checked_add-total.result (sum rows c.args.held c.args.wall.now < 2 ^ 64) (sum rows c.args.held c.args.wall.now) =
-        rw (c.place_of.ensures, c.share.ensures) at c.checked_add-total.ensures in
-    let done = set_is c.args.held c.args.wall.now _ (sum rows c.args.held c.args.wall.now < 2 ^ 64) _ c.checked_add-total.result worked (sym c.in-Some-moved.is ∙ c.moved.ensures) in
-    (ap accepts (passes_told (table rows) c.args.held c.args.wall.now c.args.lent (record {
-      ranged = ranged rows c.args.wall.now c.new_wall_column.ensures c.in_default.is;
-      few = omega (arith, c.first_wall.ensures, c.parts_row.ensures);
-      room = omega (arith, length_is rows);
-      within = ap (λ (n : ℕ). some_above n (total_added (table rows) c.args.held c.args.wall.now)) (sym rows.of_house.storeys_same) ∙ done.1;
-    })), c.row_due-at.ensures, done.0)
+    rw (c.place_of.ensures, c.share.ensures) at c.checked_add-total.ensures in
+    let done = set_is c.args.held c.args.wall.now _ (sum rows c.args.held c.args.wall.now < 2 ^ 64) _ c.checked_add-total.result worked (sym c.in-Some-moved.is ∙ c.moved.ensures) in (
+      ap accepts (passes_told (table rows) c.args.held c.args.wall.now c.args.lent (record {
+        ranged = ranged rows c.args.wall.now c.new_wall_column.ensures c.in_default.is;
+        few = omega (arith, c.first_wall.ensures, c.parts_row.ensures);
+        room = omega (arith, length_is rows);
+        within = ap (λ (n : ℕ). some_above n (total_added (table rows) c.args.held c.args.wall.now)) (sym rows.of_house.storeys_same) ∙ done.1;
+      })),
+      c.row_due-at.ensures,
+      done.0,
+    )
 
 pub returns-in-None-clause-refused : goal.returns-in-None-clause-refused
 returns-in-None-clause-refused c =
     let rows = c.args.rows.now in
     let worked : SomeIff c.checked_add-total.result (sum rows c.args.held c.args.wall.now < 2 ^ 64) (sum rows c.args.held c.args.wall.now) =
-        rw (c.place_of.ensures, c.share.ensures) at c.checked_add-total.ensures in
+    rw (c.place_of.ensures, c.share.ensures) at c.checked_add-total.ensures in
     rw c.without_place-in-None.ensures
     (told_totals (table rows) c.args.held c.args.wall.now c.args.lent
     (ranged rows c.args.wall.now c.new_wall_column.ensures c.in_default.is)

@@ -1,10 +1,10 @@
 -- `plan_deletion` meets its contract. Assumes nothing.
-use Rattle.std.proofs.Common.{◌≡◌, ◌∙◌, sym, ap, subst, refl, true, false, Option, Some, None, SomeIff, List, [], ℕ, ◌+◌, ◌-◌, ◌*◌, ◌/◌, ◌<◌, ◌≤◌, length, get_or, arith}
+use Rattle.std.proofs.Common.{◌≡◌, ◌∙◌, sym, ap, false, Option, None, SomeIff, List, [], ℕ, ◌+◌, ◌-◌, ◌*◌, ◌/◌, ◌<◌, ◌≤◌, length, get_or, arith}
 use native.Mathlib.Decide.{dec_le}
 use Rattle.answer.specs.Told.{accepts, refusal, no_such_wall}
 use Rattle.answer.specs.Lists.{part}
 use Rattle.answer.proofs.Parts.{part_cut}
-use Rattle.survey.specs.Table.{cell, storeys, parts_row, first_wall, rows_due}
+use Rattle.survey.specs.Table.{cell, storeys}
 use Rattle.survey.specs.Judgement.{judging}
 use Rattle.survey.specs.Acceptance.{Accepted}
 use Rattle.survey.proofs.Positions.{beyond}
@@ -17,7 +17,7 @@ use Rattle.diagnosis.specs.Answers.{score_at}
 use Rattle.diagnosis.proofs.Sums.{wall_cell, share_same}
 use Rattle.site.specs.Totals.{wall_total, with_total, total_taken, some_above}
 use Rattle.site.specs.Changes.{deletion}
-use Rattle.site.specs.Internal.{InStoreys, moved, wall_row}
+use Rattle.site.specs.Internal.{InStoreys, moved}
 use Rattle.site.proofs.SixTotals.{three_storeys, set_is, set_refused}
 use Rattle.site.proofs.Deletions.{Wall, Passes, found_wall, no_wall, told_below, told_above, passes_told}
 use Rattle.site.proofs.plans.plan_deletion.Goals as goal
@@ -148,9 +148,11 @@ returns-in-Some-moved-clause-planned c =
     let wall = found here in
     let iff = worked (rows here) c.args.held c.args.row c.in-Some.at wall (is_part here) c.place_of.ensures c.share.ensures c.checked_sub-total.result c.checked_sub-total.ensures in
     let done = set_is c.args.held (part 8 c.in-Some.at (rows here).table.now) (rows here).house.storeys _ _ c.checked_sub-total.result iff
-        (sym c.in-Some-moved.is ∙ c.moved.ensures ∙ ap (λ (w : List ℕ). moved c.args.held w (rows here).house.storeys c.checked_sub-total.result) (is_part here)) in
-    (ap accepts (passes_told _ _ _ (passes_is (rows here) c.args.held c.args.row c.in-Some.at wall done.2 done.1)), wall.at_is,
-      done.0 ∙ taken_is (rows here) c.args.held c.args.row c.in-Some.at wall ∙ ap (total_taken (rows here).table.now c.args.held) wall.at_is)
+    (sym c.in-Some-moved.is ∙ c.moved.ensures ∙ ap (λ (w : List ℕ). moved c.args.held w (rows here).house.storeys c.checked_sub-total.result) (is_part here)) in (
+      ap accepts (passes_told _ _ _ (passes_is (rows here) c.args.held c.args.row c.in-Some.at wall done.2 done.1)),
+      wall.at_is,
+      done.0 ∙ taken_is (rows here) c.args.held c.args.row c.in-Some.at wall ∙ ap (total_taken (rows here).table.now c.args.held) wall.at_is,
+    )
 
 pub returns-in-None-clause-refused : goal.returns-in-None-clause-refused
 returns-in-None-clause-refused c =

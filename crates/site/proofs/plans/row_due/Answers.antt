@@ -3,7 +3,7 @@ use Rattle.std.proofs.Common.{◌≡◌, ◌∙◌, refl, Bool, ℕ, ◌+◌, �
 use Rattle.std.proofs.lemmas.Iterator.{YieldsList-from_range}
 use Rattle.std.proofs.lemmas.Iterator.Search.{position_from_yields_List}
 use Rattle.answer.proofs.Places.{first_most}
-use Rattle.survey.specs.Table.{cell, first_wall, wall_rows}
+use Rattle.survey.specs.Table.{cell, wall_rows}
 use Rattle.survey.proofs.FirstInRange.{position_from, place_or_count}
 use Rattle.site.proofs.DueRows.{row_due_first}
 use Rattle.site.proofs.plans.row_due.Goals as goal

@@ -1,5 +1,5 @@
 -- `add_wall` meets its contract. Assumes nothing.
-use Rattle.std.proofs.Common.{◌≡◌, ◌∙◌, ap, List, ℕ, Err, rules}
+use Rattle.std.proofs.Common.{◌≡◌, ◌∙◌, ap, Err, rules}
 use Rattle.site.specs.Changes.{State, on, add_told, with_wall}
 use Rattle.site.proofs.Answering.{refused_answer, refused_left, made_answer, made_left}
 use Rattle.site.proofs.records.add_wall.Goals as goal

@@ -1,5 +1,5 @@
 -- `delete_wall` meets its contract. Assumes nothing.
-use Rattle.std.proofs.Common.{◌≡◌, ◌∙◌, ap, List, ℕ, Err, rules}
+use Rattle.std.proofs.Common.{◌≡◌, ◌∙◌, ap, Err, rules}
 use Rattle.site.specs.Changes.{State, on, delete_told, without_wall}
 use Rattle.site.proofs.Answering.{refused_answer, refused_left, made_answer, made_left}
 use Rattle.site.proofs.records.delete_wall.Goals as goal

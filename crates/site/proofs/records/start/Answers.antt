@@ -1,5 +1,5 @@
 -- `start` meets its contract. Assumes nothing.
-use Rattle.std.proofs.Common.{◌≡◌, ◌∙◌, ap, List, ℕ, Err, rules}
+use Rattle.std.proofs.Common.{◌≡◌, ◌∙◌, ap, Err, rules}
 use Rattle.site.specs.Changes.{State, on, checking, started}
 use Rattle.site.proofs.Answering.{refused_answer, refused_left, made_answer, made_left}
 use Rattle.site.proofs.records.start.Goals as goal

@@ -1,5 +1,5 @@
 -- `HouseAssessment::held` meets its contract. Assumes nothing.
-use Rattle.std.proofs.Common.{List, length, arith, rules}
+use Rattle.std.proofs.Common.{List, arith, rules}
 use Rattle.diagnosis.specs.declared.assessment.Assessment.{Assessment}
 use Rattle.diagnosis.specs.Premises.{no_assessment}
 use Rattle.diagnosis.proofs.SixPlaces.{six_mapped}
