@@ -1,12 +1,16 @@
 -- The theorems about changes, put by what is answered. Assumes nothing.
-use Rattle.std.proofs.Common.{◌≡◌, sym, ap, subst, ◌∙◌, true, false, T, List, ℕ, ◌+◌, ◌-◌, ◌*◌, ◌<◌, ◌≤◌, arith, length, drop, eqb→eq}
+use Rattle.std.proofs.Common.{◌≡◌, sym, ap, subst, ◌∙◌, true, false, T, List, ℕ, ◌+◌, ◌-◌, ◌*◌, ◌<◌, ◌≤◌, arith, length, drop, eqb→eq, refl}
 use Rattle.answer.specs.Told.{Told, accepts, too_many_walls, lent_space_short, no_such_wall}
 use Rattle.answer.specs.Length.{most_walls}
 use Rattle.survey.specs.Table.{cell, is_wall, wall_rows}
 use Rattle.survey.proofs.Acceptance.{accepted}
 use Rattle.diagnosis.specs.Answers.{told_refused, scoring}
+use Rattle.diagnosis.specs.Rows.{house_of}
+use Rattle.diagnosis.specs.House.{row_share}
+use Rattle.diagnosis.specs.Answers.{score_at}
+use Rattle.site.specs.Totals.{total_added, total_taken}
 use Rattle.site.specs.Changes.{State, rows_of, checking, answered, started, starting, after_starting, row_taken, add_told, with_wall, adding, after_adding, delete_told, without_wall, deleting, after_deleting}
-use Rattle.site.specs.Runs.{Change, add, delete, EightNumbers, answer_of, after, Own}
+use Rattle.site.specs.Runs.{Change, add, delete, EightNumbers, answer_of, after, Own, OneMoves}
 use Rattle.site.proofs.AcceptedChanges.{accepted_left, refused_left, answered_scored, answered_number, answered_refused, add_ready, delete_ready}
 use Rattle.site.proofs.PutBack as put_back
 use Rattle.site.proofs.Unread as unread
@@ -105,3 +109,28 @@ behind_deleted s row scored =
     let e = passed (delete_told s row) (without_wall s row) scored in
     ap (λ (t : State). drop (8 * s.totals.rows) t.table) (accepted_left (delete_told s row) s (without_wall s row) e)
     ∙ unread.behind_deleted s row (delete_ready s row e)
+
+-- The totals that a change leaves.
+held_with : (s : State) (wall : List ℕ) → (with_wall s wall).totals.held ≡ total_added (rows_of s) s.totals.held wall
+unfolding with_wall
+held_with s wall = refl
+
+held_without : (s : State) (row : ℕ) → (without_wall s row).totals.held ≡ total_taken (rows_of s) s.totals.held (row - 1)
+unfolding without_wall
+held_without s row = refl
+
+pub added_total : (s : State) (wall : List ℕ) → length wall ≡ 8 → length s.totals.held ≡ 6 → (adding s wall).scored ≡ true
+    → OneMoves s.totals.held (after_adding s wall).totals.held (score_at (cell wall 0 1) (cell wall 0 2)) (λ before after. after ≡ before + row_share (house_of (rows_of s)) wall 0)
+added_total s wall eight six scored =
+    let e = passed (add_told s wall) (with_wall s wall) scored in
+    let held_is = ap (λ (t : State). t.totals.held) (accepted_left (add_told s wall) s (with_wall s wall) e) ∙ held_with s wall in
+    rw held_is (record { here = put_back.added_here s wall e eight six; elsewhere = put_back.added_other s wall e eight six })
+
+pub taken_total : (s : State) (row : ℕ) → length s.totals.held ≡ 6 → (deleting s row).scored ≡ true
+    → let rows = rows_of s in
+    OneMoves s.totals.held (after_deleting s row).totals.held (score_at (cell rows (row - 1) 1) (cell rows (row - 1) 2))
+    (λ before after. before ≡ after + row_share (house_of rows) rows (row - 1))
+taken_total s row six scored =
+    let e = passed (delete_told s row) (without_wall s row) scored in
+    let held_is = ap (λ (t : State). t.totals.held) (accepted_left (delete_told s row) s (without_wall s row) e) ∙ held_without s row in
+    rw held_is (record { here = put_back.taken_here s row e six; elsewhere = put_back.taken_other s row e six })

@@ -17,9 +17,9 @@ use Rattle.site.proofs.SixTotals.{total_set, total_other, none_above, all_within
 use Rattle.site.proofs.Checking.{checking_accepts}
 use Rattle.site.proofs.PutLists.{put_back}
 use Rattle.site.proofs.Deletions as deletions
-use Rattle.site.proofs.States.{Ready, add_ranged, add_numbers, add_kind, add_put, add_stands, add_rows, add_table_long, add_fits, add_judged, Found, delete_rows}
+use Rattle.site.proofs.States.{Ready, add_ranged, add_numbers, add_kind, add_put, add_stands, add_rows, add_table_long, add_fits, add_judged, Found, delete_ranged, delete_rows}
 use Rattle.site.proofs.Changing.{count_with, delete_next}
-use Rattle.site.proofs.AcceptedChanges.{add_passes, add_ready}
+use Rattle.site.proofs.AcceptedChanges.{add_passes, add_ready, delete_passes, delete_ready}
 use Rattle.site.proofs.OwnRuns.{share_placed}
 
 -- An addition that is accepted, from any record.
@@ -81,11 +81,11 @@ module _ (s : State) (wall : List ℕ) (e : accepts (add_told s wall) ≡ true) 
   unfolding total_added
   added_long = length-set held _ _ ∙ six
 
-  added_other : (at : ℕ) → (at ≡ score_at st d → ⊥) → get_or (total_added A held wall) at 0 ≡ get_or held at 0
+  pub added_other : (at : ℕ) → (at ≡ score_at st d → ⊥) → get_or (total_added A held wall) at 0 ≡ get_or held at 0
   unfolding total_added
   added_other at differs = total_other held six st d (wall_total held wall 0 + share) place.0 (omega (arith, place, few)) way.0 way.1 at differs
 
-  added_here : get_or (total_added A held wall) (score_at st d) 0 ≡ wall_total held wall 0 + share
+  pub added_here : get_or (total_added A held wall) (score_at st d) 0 ≡ wall_total held wall 0 + share
   unfolding total_added
   added_here = total_set held six st d (wall_total held wall 0 + share) place.0 (omega (arith, place, few)) way.0 way.1
 
@@ -161,3 +161,32 @@ module _ (s : State) (wall : List ℕ) (e : accepts (add_told s wall) ≡ true) 
       let held_back : total_taken (rows_of after) after.totals.held (row - 1) ≡ held = rw (rows_are, held_are, back) totals_back in
       let count_back : after.totals.rows - 1 ≡ s.totals.rows = omega (arith, count_is) in
       rw (held_back, count_back) refl
+
+-- A deletion that is accepted, from any record: the totals after it, place by place.
+module _ (s : State) (row : ℕ) (e : accepts (delete_told s row) ≡ true) (six : length s.totals.held ≡ 6) where
+  abbrev R : List ℕ
+  R = rows_of s
+
+  f : Found s row
+  f = delete_ready s row e
+
+  storey_in : (1 ≤ cell R (row - 1) 1) × (cell R (row - 1) 1 ≤ 3)
+  storey_in =
+      let ranged = delete_ranged s row f 1 (omega arith) in
+      (ranged.0, omega (arith, ranged.1, (storeys_few R f.rows_accepted).1))
+
+  direction_in : (1 ≤ cell R (row - 1) 2) × (cell R (row - 1) 2 ≤ 2)
+  direction_in = delete_ranged s row f 2 (omega arith)
+
+  abbrev rest : ℕ
+  rest = wall_total s.totals.held R (row - 1) - row_share (house_of R) R (row - 1)
+
+  pub taken_here : wall_total s.totals.held R (row - 1) ≡ wall_total (total_taken R s.totals.held (row - 1)) R (row - 1) + row_share (house_of R) R (row - 1)
+  unfolding total_taken
+  taken_here =
+      let is = total_set s.totals.held six (cell R (row - 1) 1) (cell R (row - 1) 2) rest storey_in.0 storey_in.1 direction_in.0 direction_in.1 in
+      omega (arith, is, (delete_passes s row e).enough_held)
+
+  pub taken_other : (at : ℕ) → (at ≡ score_at (cell R (row - 1) 1) (cell R (row - 1) 2) → ⊥) → get_or (total_taken R s.totals.held (row - 1)) at 0 ≡ get_or s.totals.held at 0
+  unfolding total_taken
+  taken_other at differs = total_other s.totals.held six (cell R (row - 1) 1) (cell R (row - 1) 2) rest storey_in.0 storey_in.1 direction_in.0 direction_in.1 at differs

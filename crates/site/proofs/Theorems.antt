@@ -1,13 +1,13 @@
 -- The theorems about changes on site, with the examples worked from the definitions in them. Each is proved in the file that it cites. Assumes nothing.
-use Rattle.std.proofs.Common.{◌≡◌, refl, ap, ◌∙◌, arith, true, false, List, [], ◌∷◌, ◌++◌, ℕ, ◌+◌, ◌-◌, ◌*◌, ◌<◌, ◌≤◌, length, drop}
+use Rattle.std.proofs.Common.{◌≡◌, refl, ap, ◌∙◌, arith, true, false, List, [], ◌∷◌, ◌++◌, ℕ, ◌+◌, ◌-◌, ◌*◌, ◌<◌, ◌≤◌, length, drop, get_or}
 use Rattle.answer.specs.Told.{too_many_walls, lent_space_short, no_such_wall}
 use Rattle.answer.specs.Length.{most_walls}
 use Rattle.answer.specs.Houses.{p1, two_storeys}
-use Rattle.survey.specs.Table.{is_wall, wall_rows}
-use Rattle.diagnosis.specs.Answers.{told_refused, scoring}
+use Rattle.survey.specs.Table.{cell, is_wall, wall_rows}
+use Rattle.diagnosis.specs.Answers.{told_refused, scoring, score_at}
 use Rattle.site.specs.Rows.{row_due}
 use Rattle.site.specs.Changes.{State, on, rows_of, starting, after_starting, row_taken, adding, after_adding, deleting, after_deleting, with_wall, without_wall, empty_row}
-use Rattle.site.specs.Runs.{Change, add, delete, EightNumbers, AllEightNumbers, answer_of, after, after_run, Own, Alike}
+use Rattle.site.specs.Runs.{Change, add, delete, EightNumbers, AllEightNumbers, answer_of, after, after_run, Own, Alike, OneMoves}
 use Rattle.site.specs.Worked.{behind, p1_with, own_totals, p1_site, middle_wall, p1_without_window, worked_checks, expected_checks, worked_additions, expected_additions, worked_deletions, expected_deletions, worked_run, site_wider, site_after}
 use Rattle.site.proofs.OwnRuns as own_runs
 use Rattle.site.proofs.Answers as answers
@@ -68,6 +68,17 @@ pub added_and_deleted : (s : State) (wall : List ℕ) → length wall ≡ 8 → 
     × (rows_of (after_deleting (after_adding s wall) row) ≡ rows_of s)
     × ((after_deleting (after_adding s wall) row).totals ≡ s.totals)
 added_and_deleted s wall eight six scored = answers.added_and_deleted s wall eight scored six
+
+-- "Each change moves the total of that wall's storey and direction by that wall's share alone."
+pub added_total : (s : State) (wall : List ℕ) → length wall ≡ 8 → length s.totals.held ≡ 6 → (adding s wall).scored ≡ true
+    → OneMoves s.totals.held (after_adding s wall).totals.held (score_at (cell wall 0 1) (cell wall 0 2)) (λ before after. after ≡ before + row_share (house_of (rows_of s)) wall 0)
+added_total s wall eight six scored = answers.added_total s wall eight six scored
+
+pub taken_total : (s : State) (row : ℕ) → length s.totals.held ≡ 6 → (deleting s row).scored ≡ true
+    → let rows = rows_of s in
+    OneMoves s.totals.held (after_deleting s row).totals.held (score_at (cell rows (row - 1) 1) (cell rows (row - 1) 2))
+    (λ before after. before ≡ after + row_share (house_of rows) rows (row - 1))
+taken_total s row six scored = answers.taken_total s row six scored
 
 -- "rows beyond them aren't read": states that differ in those alone are answered alike, and differ in those alone after any run of changes;
 pub run_unread : (s t : State) → Alike s t → (changes : List Change) → AllEightNumbers changes → (change : Change) → EightNumbers change
@@ -161,12 +172,19 @@ pub p1_place : (wall : List ℕ) → length wall ≡ 8
     → ((adding (after_deleting p1_site 6) wall).number ≡ too_many_walls → ⊥) × ((adding (after_deleting p1_site 6) wall).number ≡ lent_space_short → ⊥)
 p1_place wall eight = place_serves_again p1_site p1_own 6 p1_window wall eight
 
--- the wall that it is given can be deleted again from row 11, and what stands behind is neither read nor changed.
+-- the wall that it is given can be deleted again from row 11, no change in X moves the total of Y, and what stands behind is neither read nor changed.
 pub p1_put_back :
     ((deleting (after_adding p1_site (middle_wall 1)) 11).scored ≡ true)
     × (rows_of (after_deleting (after_adding p1_site (middle_wall 1)) 11) ≡ p1)
     × ((after_deleting (after_adding p1_site (middle_wall 1)) 11).totals ≡ p1_site.totals)
 p1_put_back = rw examples.row_eleven at (added_and_deleted p1_site (middle_wall 1) refl refl examples.wall_scored)
+
+pub p1_totals :
+    (get_or (after_adding p1_site (middle_wall 1)).totals.held 1 0 ≡ 16_000_000) × (get_or (after_deleting p1_site 6).totals.held 1 0 ≡ 16_000_000)
+p1_totals = (
+  (added_total p1_site (middle_wall 1) refl refl examples.wall_scored).elsewhere 1 (λ e. omega arith),
+  (taken_total p1_site 6 refl p1_window).elsewhere 1 (λ e. omega arith),
+)
 
 pub p1_unread : answer_of p1_site (delete 6) ≡ answer_of (on (p1 ++ middle_wall 1 ++ middle_wall 2) p1_site.totals) (delete 6)
 unfolding after_run

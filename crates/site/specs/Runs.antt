@@ -1,6 +1,6 @@
 -- A run of additions and deletions. Document 02, request 7: "After any run of additions and deletions from a checked house whose record starts with its
 -- own sums and its count of rows, with nothing else written between, totals equal the sums over the walls present and scores equal a fresh scoring."
-use Rattle.std.specs.Prelude.{◌≡◌, ℕ, ◌*◌, ◌≤◌, List, [], ◌∷◌, length}
+use Rattle.std.specs.Prelude.{◌≡◌, ℕ, ◌*◌, ◌≤◌, List, [], ◌∷◌, length, get_or}
 use Rattle.answer.specs.Told.{Told}
 use Rattle.survey.specs.Judgement.{judging}
 use Rattle.diagnosis.specs.House.{InHouse, held}
@@ -50,3 +50,9 @@ pub record Alike (s t : State) : Type 0 where
   pub totals : s.totals ≡ t.totals
   pub long : length s.table ≡ length t.table
   pub rows : rows_of s ≡ rows_of t
+
+-- "Each change moves the total of that wall's storey and direction .. alone": in that place two lists of totals have this to each other, and in every
+-- other place the same.
+pub record OneMoves (before after : List ℕ) (place : ℕ) (Moves : ℕ → ℕ → Type 0) : Type 0 where
+  pub here : Moves (get_or before place 0) (get_or after place 0)
+  pub elsewhere : (at : ℕ) → (at ≡ place → ⊥) → get_or after at 0 ≡ get_or before at 0
