@@ -4,6 +4,8 @@ use Rattle.answer.specs.Told.{too_many_walls, lent_space_short, no_such_wall}
 use Rattle.answer.specs.Length.{most_walls}
 use Rattle.answer.specs.Houses.{p1, two_storeys}
 use Rattle.survey.specs.Table.{cell, is_wall, wall_rows}
+use Rattle.diagnosis.specs.Rows.{house_of}
+use Rattle.diagnosis.specs.House.{row_share}
 use Rattle.diagnosis.specs.Answers.{told_refused, scoring, score_at}
 use Rattle.site.specs.Rows.{row_due}
 use Rattle.site.specs.Changes.{State, on, rows_of, starting, after_starting, row_taken, adding, after_adding, deleting, after_deleting, with_wall, without_wall, empty_row}
