@@ -23,7 +23,7 @@ use Rattle.site.proofs.Checking.{checked}
 use Rattle.site.proofs.PutRows.{same_house}
 use Rattle.site.proofs.Additions as additions
 use Rattle.site.proofs.Deletions as deletions
-use Rattle.site.proofs.States.{Ready, add_fits, add_put, add_stands, add_rows, add_judged, Found, delete_fits, delete_put, delete_stands, delete_rows, delete_judged, in_use_long}
+use Rattle.site.proofs.States.{Ready, add_fits, add_put, add_stands, add_rows, add_table_long, add_judged, Found, delete_fits, delete_put, delete_stands, delete_rows, delete_table_long, delete_judged, in_use_long}
 
 -- A refusal of the rows in use is told first, whatever comes next.
 told_first : (tells next : Told) (r : Refusal) → told (Err r) ≡ tells → told (Err r) ≡ cond (accepts tells) next tells
@@ -43,20 +43,35 @@ rows_are_due table h rows long = omega (arith, (accepted table h).sizes)
 pub count_small : (rows : AcceptedTable) → rows.rows ≤ 312
 count_small rows = omega (arith, rows.rows_are, (accepted rows.table.now rows.of_house.stands.accepted).sizes)
 
--- What the code has stored is the state that a change makes.
-module _ (table held : List ℕ) (rows : ℕ) (after : State) (is : on table (record { held = held; rows = rows }) ≡ after) where
-  pub stored_house : (house : House) → HouseOf (rows_of after) house → HouseOf (in_use table rows) house
-  stored_house house known = subst (λ (l : List ℕ). HouseOf l house) (sym (ap rows_of is)) known
+-- What the code stores after a change that was told so: a table, six totals and a count of rows, which are the state that the change makes.
+pub record Stores (tells : Told) (after : State) (house : House) (stored held : List ℕ) (rows : ℕ) : Type 0 where
+  pub accepted_so : accepts tells ≡ true
+  pub state : on stored (record { held = held; rows = rows }) ≡ after
+  pub fits : 8 * rows ≤ length stored
+  pub house_known : HouseOf (rows_of after) house
+  pub within : some_above (storeys (rows_of after)) held ≡ false
 
-  pub stored_rows : (house : House) → HouseOf (rows_of after) house → 8 * rows ≤ length table → rows ≡ rows_due (in_use table rows)
-  stored_rows house known fits =
-      rows_are_due (in_use table rows) (stored_house house known).stands.accepted rows (in_use_long (on table (record { held = held; rows = rows })) fits)
+-- So these are an accepted table's rows in use, with that house, and no total of it is above the most.
+module _ {tells : Told} {after : State} {house : House} {stored held table : List ℕ} {rows : ℕ} (s : Stores tells after house stored held rows) (is : table ≡ stored) where
+  pub stored_fits : 8 * rows ≤ length table
+  stored_fits = rw is s.fits
 
-  pub stored_within : some_above (storeys (rows_of after)) held ≡ false → some_above (storeys (in_use table rows)) held ≡ false
-  stored_within within = ap (λ (s : State). some_above (storeys (rows_of s)) held) is ∙ within
+  pub stored_house : HouseOf (in_use table rows) house
+  stored_house = subst (λ (l : List ℕ). HouseOf l house) (sym (ap (λ (t : List ℕ). in_use t rows) is ∙ ap rows_of s.state)) s.house_known
 
-  pub stored_made : (changed : Changed) → Made changed (on table (record { held = held; rows = rows })) → (table ≡ after.table) × Made changed after
-  stored_made changed made = (ap (λ (s : State). s.table) is, subst (λ (s : State). Made changed s) is made)
+  pub stored_rows : rows ≡ rows_due (in_use table rows)
+  stored_rows =
+      rows_are_due (in_use table rows) stored_house.stands.accepted rows (in_use_long (on table (record { held = held; rows = rows })) stored_fits)
+
+  pub stored_within : some_above (storeys (in_use table rows)) held ≡ false
+  stored_within =
+      ap (λ (t : List ℕ). some_above (storeys (in_use t rows)) held) is ∙ ap (λ (t : State). some_above (storeys (rows_of t)) held) s.state ∙ s.within
+
+  pub stored_made : (changed : Changed) → Made changed (on table (record { held = held; rows = rows }))
+      → (accepts tells ≡ true) × (table ≡ after.table) × Made changed after
+  stored_made changed made =
+      let state = ap (λ (t : List ℕ). on t (record { held = held; rows = rows })) is ∙ s.state in
+      (s.accepted_so, ap (λ (t : State). t.table) state, subst (λ (t : State). Made changed t) state made)
 
 -- How many rows are in use afterwards.
 pub count_with : (s : State) (wall : List ℕ) → (with_wall s wall).totals.rows ≡ s.totals.rows + 1
@@ -102,19 +117,17 @@ module _ (s : State) where
     pub delete_stopped : (row : ℕ) (r : Refusal) → told (Err r) ≡ deletion rows.table.now s.totals.held row → told (Err r) ≡ delete_told s row
     delete_stopped row r e = e ∙ ap (λ (l : List ℕ). deletion l s.totals.held row) same ∙ delete_next row ok
 
-    -- A start makes this state.
-    module _ (sums : List ℕ) (sums_are : sums ≡ six_numbers rows.table.now (held rows.table.now)) where
-      pub start_state : on s.table (record { held = sums; rows = rows.rows }) ≡ started s
-      unfolding started
-      start_state = rw (sums_are, same, count_is)
-
-      pub start_house : HouseOf (rows_of (started s)) rows.house
-      unfolding started
-      start_house = house_is (rows_of s) (checked s ok).accepted house_same
-
-      pub start_within : some_above (storeys (rows_of (started s))) sums ≡ false
-      unfolding started
-      start_within = rw (sums_are, same) (sums_within (rows_of s) (checked s ok).accepted)
+    -- What is stored after a start.
+    pub starts : (sums : List ℕ) → sums ≡ six_numbers rows.table.now (held rows.table.now)
+        → Stores (checking s) (started s) rows.house s.table sums rows.rows
+    unfolding started
+    starts sums sums_are = record {
+      accepted_so = ok;
+      state = rw (sums_are, same, count_is);
+      fits = omega (arith, count_is, (checked s ok).fits);
+      house_known = house_is (rows_of s) (checked s ok).accepted house_same;
+      within = rw (sums_are, same) (sums_within (rows_of s) (checked s ok).accepted);
+    }
 
     module _ (wall : List ℕ) (eight : length wall ≡ 8) (passed : accepts (addition rows.table.now s.totals.held (length s.table) wall) ≡ true) where
       passes : additions.Passes (rows_of s) s.totals.held wall (length s.table)
@@ -130,31 +143,36 @@ module _ (s : State) where
         room = passes.room;
       }
 
-      pub add_accepts : accepts (add_told s wall) ≡ true
+      add_accepts : accepts (add_told s wall) ≡ true
       add_accepts = sym (ap accepts (add_next wall ok)) ∙ ap (λ (l : List ℕ). accepts (addition l s.totals.held (length s.table) wall)) (sym same) ∙ passed
 
-      -- The state that it makes.
-      module _ (at : ℕ) (at_is : at ≡ row_taken rows.table.now wall) (held : List ℕ) (held_is : held ≡ total_added rows.table.now s.totals.held wall) where
+      add_house : HouseOf (rows_of (with_wall s wall)) rows.house
+      add_house =
+          house_is (rows_of (with_wall s wall)) (add_judged s wall ready)
+          (house_same ∙ sym (ap house_of (add_rows s wall ready) ∙ same_house (add_put s wall ready) (omega (arith, add_stands s wall ready))))
+
+      -- Where the wall is put in, and what is stored then.
+      module _ (at : ℕ) (at_is : at ≡ row_taken rows.table.now wall) where
         at_row : at ≡ row_taken (rows_of s) wall
         at_row = at_is ∙ ap (λ (l : List ℕ). row_taken l wall) same
 
         pub add_requires : (at ≤ rows.rows) × (8 * rows.rows + 8 ≤ length s.table)
         add_requires = (omega (arith, at_row, count_is, add_fits s wall ready), omega (arith, count_is, add_fits s wall ready))
 
-        pub add_state : (table : List ℕ) → table ≡ over s.table (with_row (in_use s.table rows.rows) at wall)
-            → on table (record { held = held; rows = rows.rows + 1 }) ≡ with_wall s wall
+        pub adds : (held : List ℕ) → held ≡ total_added rows.table.now s.totals.held wall
+            → Stores (add_told s wall) (with_wall s wall) rows.house (over s.table (with_row (in_use s.table rows.rows) at wall)) held (rows.rows + 1)
         unfolding with_wall
-        add_state table is = rw (is, at_row, held_is, same, count_is)
-
-        pub add_house : HouseOf (rows_of (with_wall s wall)) rows.house
-        add_house =
-            house_is (rows_of (with_wall s wall)) (add_judged s wall ready)
-            (house_same ∙ sym (ap house_of (add_rows s wall ready) ∙ same_house (add_put s wall ready) (omega (arith, add_stands s wall ready))))
-
-        pub add_within : some_above (storeys (rows_of (with_wall s wall))) held ≡ false
-        add_within =
+        adds held held_is =
             let many : storeys (rows_of (with_wall s wall)) ≡ storeys (rows_of s) = ap storeys (add_rows s wall ready) ∙ (add_stands s wall ready).storeys_same in
-            rw (many, held_is, same) passes.within
+            let state : on (over s.table (with_row (in_use s.table rows.rows) at wall)) (record { held = held; rows = rows.rows + 1 }) ≡ with_wall s wall =
+            rw (at_row, held_is, same, count_is) refl in
+            record {
+              accepted_so = add_accepts;
+              state = state;
+              fits = omega (arith, ap (λ (t : State). length t.table) state, add_table_long s wall ready, add_requires);
+              house_known = add_house;
+              within = rw (many, held_is, same) passes.within;
+            }
 
     module _ (row : ℕ) (passed : accepts (deletion rows.table.now s.totals.held row) ≡ true) where
       left : deletions.Passes (rows_of s) s.totals.held row
@@ -163,25 +181,30 @@ module _ (s : State) where
       pub found : Found s row
       found = record { fits = (checked s ok).fits; rows_accepted = (checked s ok).accepted; some = left.wall.some; kind = left.wall.kind }
 
-      pub delete_accepts : accepts (delete_told s row) ≡ true
+      delete_accepts : accepts (delete_told s row) ≡ true
       delete_accepts = sym (ap accepts (delete_next row ok)) ∙ ap (λ (l : List ℕ). accepts (deletion l s.totals.held row)) (sym same) ∙ passed
 
-      -- The state that it makes.
-      module _ (at : ℕ) (at_is : at ≡ row - 1) (held : List ℕ) (held_is : held ≡ total_taken rows.table.now s.totals.held (row - 1)) where
+      delete_house : HouseOf (rows_of (without_wall s row)) rows.house
+      delete_house =
+          house_is (rows_of (without_wall s row)) (delete_judged s row found)
+          (house_same ∙ same_house (delete_put s row found) (omega (arith, delete_stands s row found)) ∙ sym (ap house_of (delete_rows s row found)))
+
+      -- Where the wall is taken out, and what is stored then.
+      module _ (at : ℕ) (at_is : at ≡ row - 1) where
         pub delete_requires : (at < rows.rows) × (8 * rows.rows ≤ length s.table)
         delete_requires = (omega (arith, at_is, count_is, delete_fits s row found), omega (arith, count_is, found.fits))
 
-        pub delete_state : (table : List ℕ) → table ≡ over s.table (without_row (in_use s.table rows.rows) at ++ empty_row)
-            → on table (record { held = held; rows = rows.rows - 1 }) ≡ without_wall s row
+        pub deletes : (held : List ℕ) → held ≡ total_taken rows.table.now s.totals.held (row - 1)
+            → Stores (delete_told s row) (without_wall s row) rows.house (over s.table (without_row (in_use s.table rows.rows) at ++ empty_row)) held (rows.rows - 1)
         unfolding without_wall
-        delete_state table is = rw (is, at_is, held_is, same, count_is)
-
-        pub delete_house : HouseOf (rows_of (without_wall s row)) rows.house
-        delete_house =
-            house_is (rows_of (without_wall s row)) (delete_judged s row found)
-            (house_same ∙ same_house (delete_put s row found) (omega (arith, delete_stands s row found)) ∙ sym (ap house_of (delete_rows s row found)))
-
-        pub delete_within : some_above (storeys (rows_of (without_wall s row))) held ≡ false
-        delete_within =
+        deletes held held_is =
             let many : storeys (rows_of (without_wall s row)) ≡ storeys (rows_of s) = ap storeys (delete_rows s row found) ∙ sym (delete_stands s row found).storeys_same in
-            rw (many, held_is, same) left.within
+            let state : on (over s.table (without_row (in_use s.table rows.rows) at ++ empty_row)) (record { held = held; rows = rows.rows - 1 }) ≡ without_wall s row =
+            rw (at_is, held_is, same, count_is) refl in
+            record {
+              accepted_so = delete_accepts;
+              state = state;
+              fits = omega (arith, ap (λ (t : State). length t.table) state, delete_table_long s row found, delete_requires);
+              house_known = delete_house;
+              within = rw (many, held_is, same) left.within;
+            }

@@ -1,12 +1,11 @@
 -- `with_wall` meets its contract. Assumes nothing.
-use Rattle.std.proofs.Common.{◌≡◌, refl, false, Err, rules, ◌+◌, ◌*◌, ◌≤◌, length, arith}
-use Rattle.survey.specs.Table.{storeys}
-use Rattle.diagnosis.specs.Premises.{HouseOf}
-use Rattle.site.specs.Totals.{some_above}
-use Rattle.site.specs.Changes.{State, on, rows_of, with_wall}
-use Rattle.site.proofs.Changing.{count_small, stored_house, stored_rows, stored_within, stored_made, add_refused, add_stopped, add_accepts, add_requires, add_state, add_house, add_within}
+use Rattle.std.proofs.Common.{◌≡◌, refl, Err, rules, ◌+◌, arith}
+use Rattle.answer.specs.Lists.{over}
+use Rattle.site.specs.Rows.{in_use, with_row}
+use Rattle.site.specs.Changes.{on, add_told, with_wall}
+use Rattle.site.proofs.Changing.{count_small, Stores, stored_fits, stored_house, stored_rows, stored_within, stored_made, add_refused, add_stopped, add_requires, adds}
 use Rattle.site.proofs.changes.with_wall.Goals as goal
-use Rattle.site.proofs.changes.with_wall.Goals.{After-insert}
+use Rattle.site.proofs.changes.with_wall.Goals.{After-insert-arg-1}
 
 pub returns-in_err-rows-clause-refused : goal.returns-in_err-rows-clause-refused
 returns-in_err-rows-clause-refused c =
@@ -23,64 +22,31 @@ pub insert-requires : goal.insert-requires
 insert-requires c =
     let ok = c.in_ok-rows.ensures.accepted in
     let planned = c.in_ok-plan.ensures.planned in
-    add_requires (on c.args.table.now c.args.totals) c.in_ok-rows.rows ok.0 ok.1 c.args.wall.now c.told-wall planned.0 c.in_ok-plan.plan.at planned.1 c.in_ok-plan.plan.held
-    planned.2
+    add_requires (on c.args.table.now c.args.totals) c.in_ok-rows.rows ok.0 ok.1 c.args.wall.now c.told-wall planned.0 c.in_ok-plan.plan.at planned.1
 
--- The state that is stored.
-module _ (c : After-insert) where
-  abbrev before : State
-  before = on c.args.table.now c.args.totals
-
-  fits : (c.in_ok-plan.plan.at ≤ c.in_ok-rows.rows.rows) × (8 * c.in_ok-rows.rows.rows + 8 ≤ length c.args.table.now)
-  fits =
-      let ok = c.in_ok-rows.ensures.accepted in
-      let planned = c.in_ok-plan.ensures.planned in
-      add_requires before c.in_ok-rows.rows ok.0 ok.1 c.args.wall.now c.told-wall planned.0 c.in_ok-plan.plan.at planned.1 c.in_ok-plan.plan.held planned.2
-
-  state_is : on c.insert.new.table (record { held = c.in_ok-plan.plan.held; rows = c.in_ok-rows.rows.rows + 1 }) ≡ with_wall before c.args.wall.now
-  state_is =
-      let ok = c.in_ok-rows.ensures.accepted in
-      let planned = c.in_ok-plan.ensures.planned in
-      add_state before c.in_ok-rows.rows ok.0 ok.1 c.args.wall.now c.told-wall planned.0 c.in_ok-plan.plan.at planned.1 c.in_ok-plan.plan.held planned.2 c.insert.new.table
-      c.insert.ensures
-
-  house_is : HouseOf (rows_of (with_wall before c.args.wall.now)) c.in_ok-rows.rows.house
-  house_is =
-      let ok = c.in_ok-rows.ensures.accepted in
-      let planned = c.in_ok-plan.ensures.planned in
-      add_house before c.in_ok-rows.rows ok.0 ok.1 c.args.wall.now c.told-wall planned.0 c.in_ok-plan.plan.at planned.1 c.in_ok-plan.plan.held planned.2
-
-  within : some_above (storeys (rows_of (with_wall before c.args.wall.now))) c.in_ok-plan.plan.held ≡ false
-  within =
-      let ok = c.in_ok-rows.ensures.accepted in
-      let planned = c.in_ok-plan.ensures.planned in
-      add_within before c.in_ok-rows.rows ok.0 ok.1 c.args.wall.now c.told-wall planned.0 c.in_ok-plan.plan.at planned.1 c.in_ok-plan.plan.held planned.2
-
-pub overflow_add-count : goal.overflow_add-count
-overflow_add-count c = omega (arith, fits (goal.at.overflow_add-count c).After-insert, count_small c.in_ok-rows.rows)
-
-pub scored-requires-clause-fits : goal.scored-requires-clause-fits
-scored-requires-clause-fits c = omega (arith, fits (goal.at.scored-requires-clause-fits c).After-insert, c.insert.auto.table)
-
-pub scored-requires-clause-house : goal.scored-requires-clause-house
-scored-requires-clause-house c =
-    let here = (goal.at.scored-requires-clause-house c).After-insert in
-    stored_house _ _ _ _ (state_is here) _ (house_is here)
-
-pub scored-requires-clause-rows : goal.scored-requires-clause-rows
-scored-requires-clause-rows c =
-    let here = (goal.at.scored-requires-clause-rows c).After-insert in
-    stored_rows _ _ _ _ (state_is here) _ (house_is here) (omega (arith, fits here, here.insert.auto.table))
-
-pub scored-requires-clause-within : goal.scored-requires-clause-within
-scored-requires-clause-within c =
-    let here = (goal.at.scored-requires-clause-within c).After-insert in
-    stored_within _ _ _ _ (state_is here) (within here)
-
-pub returns-clause-made : goal.returns-clause-made
-returns-clause-made c =
-    let here = (goal.at.returns-clause-made c).After-insert in
+-- What is stored is the state that the change makes.
+stores : (c : After-insert-arg-1)
+    → Stores (add_told (on c.args.table.now c.args.totals) c.args.wall.now) (with_wall (on c.args.table.now c.args.totals) c.args.wall.now) c.in_ok-rows.rows.house
+    (over c.args.table.now (with_row (in_use c.args.table.now c.in_ok-rows.rows.rows) c.in_ok-plan.plan.at c.args.wall.now)) c.in_ok-plan.plan.held (c.in_ok-rows.rows.rows + 1)
+stores c =
     let ok = c.in_ok-rows.ensures.accepted in
     let planned = c.in_ok-plan.ensures.planned in
-    let made = stored_made _ _ _ _ (state_is here) c.scored.result c.scored.ensures in
-    (add_accepts (before here) c.in_ok-rows.rows ok.0 ok.1 c.args.wall.now c.told-wall planned.0, made.0, made.1)
+    adds (on c.args.table.now c.args.totals) c.in_ok-rows.rows ok.0 ok.1 c.args.wall.now c.told-wall planned.0 c.in_ok-plan.plan.at planned.1 c.in_ok-plan.plan.held planned.2
+
+pub overflow_add-count : goal.overflow_add-count
+overflow_add-count c = omega (arith, count_small c.in_ok-rows.rows)
+
+pub scored-requires-clause-fits : goal.scored-requires-clause-fits
+scored-requires-clause-fits c = stored_fits (stores (goal.at.scored-requires-clause-fits c).After-insert-arg-1) c.insert.ensures
+
+pub scored-requires-clause-house : goal.scored-requires-clause-house
+scored-requires-clause-house c = stored_house (stores (goal.at.scored-requires-clause-house c).After-insert-arg-1) c.insert.ensures
+
+pub scored-requires-clause-rows : goal.scored-requires-clause-rows
+scored-requires-clause-rows c = stored_rows (stores (goal.at.scored-requires-clause-rows c).After-insert-arg-1) c.insert.ensures
+
+pub scored-requires-clause-within : goal.scored-requires-clause-within
+scored-requires-clause-within c = stored_within (stores (goal.at.scored-requires-clause-within c).After-insert-arg-1) c.insert.ensures
+
+pub returns-clause-made : goal.returns-clause-made
+returns-clause-made c = stored_made (stores (goal.at.returns-clause-made c).After-insert-arg-1) c.insert.ensures c.scored.result c.scored.ensures
