@@ -151,6 +151,16 @@ fn under_node_the_module_has_the_functions_of_the_header_and_no_more() {
     assert!(page::says("The module has a stack of 64 KB"));
 }
 
+#[test]
+fn the_page_has_the_size_of_the_module() {
+    let file = fs::metadata(module()).expect("the module is there");
+    let kilobytes = (file.len() + 512) / 1024;
+    assert!(
+        page::says(&format!("`girderbasil.wasm`, some {kilobytes} KB")),
+        "{kilobytes}"
+    );
+}
+
 /// Asserts that the command said one line, with some words in it, and ended with 2.
 fn assert_one_line(output: &Output, words: &str) {
     let said = text(&output.stderr);

@@ -129,7 +129,7 @@ fn the_bridging_header_compiles_for_ios() {
 }
 
 #[test]
-fn under_node_a_sheet_is_scored() {
+fn under_node_a_sheet_is_scored_and_changed_on_site() {
     let folder = common::folder("web");
     let web = common::top().join("web");
     fs::copy(web.join("package.json"), folder.join("package.json")).expect("a copy");
@@ -139,15 +139,16 @@ fn under_node_a_sheet_is_scored() {
     let script = common::top().join("host/tests/page.mjs");
     let mut command = node(&script);
     command.arg(&folder);
+    let scored = "0 0 0 47,83,0,0,0,0 2 4 1 47,83,0,0,0,0 \
+                  352000000000,128000000000,0,0,0,0 384000000000,384000000000,0,0,0,0\n";
+    let on_site = "0 0 0 47,83,0,0,0,0\n0 0 0 68,83,0,0,0,0\n0 0 0 62,83,0,0,0,0\n";
+    let refused = "6 3 4 0,0,0,0,0,0 0 0 0 0,0,0,0,0,0 0,0,0,0,0,0 0,0,0,0,0,0\n";
+    let refused_on_site = "6 3 4 0,0,0,0,0,0\n".repeat(3);
     for (file, shown) in [
-        (
-            "examples/p1.sheet",
-            "0 0 0 47,83,0,0,0,0 2 4 1 47,83,0,0,0,0 \
-             352000000000,128000000000,0,0,0,0 384000000000,384000000000,0,0,0,0\n",
-        ),
+        ("examples/p1.sheet", scored.to_owned() + on_site),
         (
             "examples/refused.sheet",
-            "6 3 4 0,0,0,0,0,0 0 0 0 0,0,0,0,0,0 0,0,0,0,0,0 0,0,0,0,0,0\n",
+            refused.to_owned() + &refused_on_site,
         ),
     ] {
         let sheet = fs::read(common::top().join(file)).expect("an example");
@@ -155,7 +156,9 @@ fn under_node_a_sheet_is_scored() {
         common::assert_silent(&output, file);
         assert_eq!(String::from_utf8_lossy(&output.stdout), shown, "{file}");
     }
+    // No rows are in use then.
     let output = common::run(&mut command, b"no sheet");
     common::assert_silent(&output, "no sheet");
-    assert_eq!(String::from_utf8_lossy(&output.stdout), "1 0 0 0\n");
+    let no_rows = "1 0 0 0\n1 0 0 0\n".to_owned() + &"1 0 0 0,0,0,0,0,0\n".repeat(2);
+    assert_eq!(String::from_utf8_lossy(&output.stdout), no_rows);
 }
