@@ -133,8 +133,8 @@ fn code_for_arm64_touches_every_page_of_the_stack() {
     }
 }
 
-/// Its stack is as large as the page says and stands first in memory, before everything else: a table of the code's, of 160
-/// bytes, and what is left for the host.
+/// Its stack is as large as the page says and stands first in memory, before everything else: the manual's tables, which end
+/// within 544 bytes, and what is left for the host.
 #[test]
 fn under_node_the_module_has_the_functions_of_the_header_and_no_more() {
     let program = "const module = new WebAssembly.Module(fs.readFileSync(process.argv[1]));
