@@ -6,6 +6,7 @@ use std::time::{Duration, Instant};
 use girderbasil_host::library::Site;
 use girderbasil_host::model::{report, score, sheet};
 use girderbasil_host::random::{Random, house};
+use girderbasil_host::site::Totals;
 use girderbasil_host::{MOST_REPORT_BYTES, MOST_ROWS, MOST_WALLS, ROW, library, worked};
 
 /// The two are timed in turn, this often, and the best round of each counts: what else the machine does can only
@@ -221,7 +222,7 @@ fn on_site(random: &mut Random, storeys: u32) -> OnSite {
     }
 }
 
-/// Prints what one addition and one deletion take, each beside the scoring of the table with all its walls.
+/// Prints what a start, one addition and one deletion take, each beside the scoring of the table with all its walls.
 fn print_changes() {
     println!(
         "\n{:<38}{:>10}{:>10}{:>8}",
@@ -234,8 +235,12 @@ fn print_changes() {
     for (name, storeys) in [("two storeys", 2), ("three storeys", 3)] {
         let houses = 0..WALLS as usize / MOST_WALLS;
         let mut houses: Vec<OnSite> = houses.map(|_| on_site(&mut random, storeys)).collect();
-        let [addition, scoring, deletion] = time_changes(&mut houses);
-        for (change, time) in [("an addition", addition), ("a deletion", deletion)] {
+        let [addition, scoring, start, deletion] = time_changes(&mut houses);
+        for (change, time) in [
+            ("a start", start),
+            ("an addition", addition),
+            ("a deletion", deletion),
+        ] {
             let name = format!("{name}, {change}");
             let ratio = time / scoring;
             println!("{name:<38}{time:>10.0}{scoring:>10.0}{ratio:>8.2}");
@@ -243,10 +248,10 @@ fn print_changes() {
     }
 }
 
-/// Nanoseconds an addition, a scoring and a deletion, the best round of each. They go through all houses in turn, so that
-/// after each turn every house is as it was.
-fn time_changes(houses: &mut [OnSite]) -> [f64; 3] {
-    let calls: [fn(&mut OnSite); 3] = [
+/// Nanoseconds an addition, a scoring, a start and a deletion, the best round of each. They go through all houses in turn,
+/// so that after each turn every house is as it was. A start of the wrapper's would copy the table.
+fn time_changes(houses: &mut [OnSite]) -> [f64; 4] {
+    let calls: [fn(&mut OnSite); 4] = [
         |house| {
             let wall = black_box(&house.wall);
             black_box(house.site.add_wall(wall).expect("it is accepted"));
@@ -255,15 +260,22 @@ fn time_changes(houses: &mut [OnSite]) -> [f64; 3] {
             black_box(library::score(black_box(house.site.table())).expect("it is accepted"));
         },
         |house| {
+            let rows = house.site.rows() as u32;
+            let mut totals = Totals { held: [0; 6], rows };
+            let scoring = library::raw_start(&mut totals, black_box(house.site.table()));
+            assert_eq!(scoring.number, 0, "it is accepted");
+            black_box((totals, scoring));
+        },
+        |house| {
             let row = black_box(house.row);
             black_box(house.site.delete_wall(row).expect("it is accepted"));
         },
     ];
-    let mut best = [f64::INFINITY; 3];
+    let mut best = [f64::INFINITY; 4];
     for _ in 0..ROUNDS {
-        let mut spent = [Duration::ZERO; 3];
+        let mut spent = [Duration::ZERO; 4];
         let mut timed = 0;
-        while spent.iter().sum::<Duration>() < 3 * ROUND {
+        while spent.iter().sum::<Duration>() < 4 * ROUND {
             for (spent, call) in spent.iter_mut().zip(calls) {
                 let start = Instant::now();
                 houses.iter_mut().for_each(call);
