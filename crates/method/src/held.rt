@@ -7,7 +7,9 @@ ghost use Rattle.method.specs.Held.{solid_share, opening_share, wall_share};
 use crate::joints::joint_factor;
 use crate::rows::{House, Wall};
 
-// A solid wall.
+// A solid wall. Going through a house's walls takes a sixth longer where this and `wall_share` are calls, which the
+// compiler makes of them once they have several callers.
+#[inline(always)]
 fn solid_share(house: House, storey: u32, wall: Wall) -> u64
     ensures { result ≡ solid_share house storey wall }
 {
@@ -24,6 +26,7 @@ fn opening_share(strength: u64, wall: Wall) -> u64
 }
 
 // A wall by its type: 1 solid, 2 window opening, 3 full-height opening; 0 for any other.
+#[inline(always)]
 pub fn wall_share(house: House, storey: u32, wall: Wall) -> u64
     ensures { result ≡ wall_share house storey wall }
 {
