@@ -19,4 +19,4 @@ mod scores;
 pub use accepted::AcceptedTable;
 pub use program::{ProgramOutput, diagnose, output_of};
 pub use reports::{MOST_REPORT_BYTES, report};
-pub use scores::{Record, score};
+pub use scores::{OwnRecord, Record, score};

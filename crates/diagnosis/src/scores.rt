@@ -3,7 +3,7 @@ ghost use Rattle.std.specs.Prelude.{◌≡◌, leb, map};
 ghost use Rattle.diagnosis.specs.declared.assessment.Assessment.{Assessment};
 ghost use Rattle.diagnosis.specs.Rows.{start_of_work};
 ghost use Rattle.diagnosis.specs.House.{held, grants_last_day};
-ghost use Rattle.diagnosis.specs.Answers.{told_record, six_numbers, counted_as, record_with, told_scoring, scoring};
+ghost use Rattle.diagnosis.specs.Answers.{told_record, six_numbers, counted_as, record_with, record_of, told_scoring, scoring};
 ghost use Rattle.diagnosis.specs.Internal.{held_by, record_by};
 
 use crate::accepted::AcceptedTable;
@@ -26,6 +26,13 @@ pub struct Record {
     pub started_by_31_may_1981: bool,
     // Beside each score, what it was before its limit of 999, with what is left over.
     pub quotients: [Quotient; 6],
+}
+
+// A house's record, and what its own walls hold in each storey and direction, in the scores' order.
+#[derive(Clone, Copy, Debug, PartialEq, Eq)]
+pub struct OwnRecord {
+    pub held: [u64; 6],
+    pub scored: Record,
 }
 
 // The last day on which work could start for the grant.
@@ -81,12 +88,18 @@ impl AcceptedTable<'_> {
         self.record(Some(given))
     }
 
-    // What its own walls hold, in the scores' order.
-    #[tactic(auto, using(crate::proofs::Assessments::held_is))]
-    pub fn held(&self) -> [u64; 6]
-        ensures { result ≡ six_numbers self.now.table.now (held self.now.table.now) }
+    // By what its own walls hold, with that.
+    #[tactic(auto, using(crate::proofs::Assessments::held_is, crate::proofs::Assessments::record_is), unfolding(crate::specs::Answers::record_of))]
+    pub fn own_record(&self) -> OwnRecord
+        ensures held { result.held ≡ six_numbers self.now.table.now (held self.now.table.now) }
+        ensures scored { told_record result.scored ≡ record_of self.now.table.now }
     {
-        self.assess(None).held()
+        let house = self.assess(None);
+        let started = self.started_by_31_may_1981();
+        OwnRecord {
+            held: house.held(),
+            scored: house.record(started),
+        }
     }
 }
 

@@ -16,8 +16,10 @@ use Rattle.site.specs.Internal.{Made}
 use Rattle.site.specs.Rows.{in_use, with_row, without_row}
 use Rattle.site.specs.Totals.{total_added, total_taken, some_above}
 use Rattle.diagnosis.specs.House.{held}
-use Rattle.diagnosis.specs.Answers.{six_numbers}
-use Rattle.site.proofs.OwnSums.{sums_within}
+use Rattle.diagnosis.specs.declared.scores.Record.{Record}
+use Rattle.diagnosis.specs.Answers.{told_record, six_numbers, number_at, record_of}
+use Rattle.diagnosis.proofs.GivenStrengths.{record_own}
+use Rattle.site.proofs.OwnSums.{sums_own}
 use Rattle.site.specs.Changes.{State, on, rows_of, checking, started, row_taken, addition, add_told, with_wall, deletion, delete_told, without_wall, empty_row}
 use Rattle.site.proofs.Checking.{checked}
 use Rattle.site.proofs.PutRows.{same_house}
@@ -117,17 +119,16 @@ module _ (s : State) where
     pub delete_stopped : (row : ℕ) (r : Refusal) → told (Err r) ≡ deletion rows.table.now s.totals.held row → told (Err r) ≡ delete_told s row
     delete_stopped row r e = e ∙ ap (λ (l : List ℕ). deletion l s.totals.held row) same ∙ delete_next row ok
 
-    -- What is stored after a start.
-    pub starts : (sums : List ℕ) → sums ≡ six_numbers rows.table.now (held rows.table.now)
-        → Stores (checking s) (started s) rows.house s.table sums rows.rows
+    -- A start fills in the sums of the rows in use, and answers their record.
+    pub starts : (held_is : List ℕ) → held_is ≡ six_numbers rows.table.now (held rows.table.now) → (scored : Record) → told_record scored ≡ record_of rows.table.now
+        → Made (record { totals = record { held = held_is; rows = s.totals.rows }; answer = scored }) (started s)
     unfolding started
-    starts sums sums_are = record {
-      accepted_so = ok;
-      state = rw (sums_are, same, count_is);
-      fits = omega (arith, count_is, (checked s ok).fits);
-      house_known = house_is (rows_of s) (checked s ok).accepted house_same;
-      within = rw (sums_are, same) (sums_within (rows_of s) (checked s ok).accepted);
-    }
+    starts sums sums_are scored scored_is =
+        let R = rows_of s in
+        record {
+          totals = rw (sums_are, same) refl;
+          answer_is = scored_is ∙ rw same (sym (record_own R (number_at (six_numbers R (held R))) (sums_own R (checked s ok).accepted)));
+        }
 
     module _ (wall : List ℕ) (eight : length wall ≡ 8) (passed : accepts (addition rows.table.now s.totals.held (length s.table) wall) ≡ true) where
       passes : additions.Passes (rows_of s) s.totals.held wall (length s.table)

@@ -31,6 +31,3 @@ module _ (table : List ℕ) (h : (judging table).number ≡ 0) where
       let here = in_house_at table at inside in
       let place : score_at (at / 2 + 1) (at % 2 + 1) ≡ at = omega arith in
       omega (arith, ap (λ (k : ℕ). get_or totals k 0) place, own (at / 2 + 1) (at % 2 + 1) here, storey_held_most table h (at / 2 + 1) (at % 2 + 1)))
-
-  pub sums_within : some_above (storeys table) (six_numbers table (held table)) ≡ false
-  sums_within = own_within (six_numbers table (held table)) sums_six sums_own

@@ -51,8 +51,13 @@ pub(crate) fn started(totals: Totals, table: &[u32]) -> Result<Changed, Refusal>
     ensures made { IfOk result (λ changed. (accepts (checking (on table.now totals)) ≡ true) × Made changed (started (on table.now totals))) }
     ensures refused { IfErr result (λ refused. told (Err refused) ≡ checking (on table.now totals)) }
 {
-    let rows = checked(totals, table)?;
-    Ok(scored(table, rows.house, rows.rows, rows.held()))
+    let own = checked(totals, table)?.own_record();
+    let held = own.held;
+    let rows = totals.rows;
+    Ok(Changed {
+        totals: Totals { held, rows },
+        answer: own.scored,
+    })
 }
 
 // Adds a wall.
