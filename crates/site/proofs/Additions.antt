@@ -1,5 +1,5 @@
 -- The tests of an addition, one after the other, and what holds where it passes them all. Assumes nothing.
-use Rattle.std.proofs.Common.{◌≡◌, refl, ap, Bool, true, false, cond, List, ℕ, ◌+◌, ◌/◌, ◌<◌, ◌≤◌, arith, length, ltb, leb, lt-ltb, le-ltb, ltb-false}
+use Rattle.std.proofs.Common.{◌≡◌, refl, sym, ap, ◌∙◌, Bool, true, false, cond, List, ℕ, ◌+◌, ◌/◌, ◌<◌, ◌≤◌, arith, length, ltb, leb, lt-ltb, le-ltb, ltb-false}
 use Rattle.std.proofs.lemmas.Bool.{le-leb, lt-leb}
 use borrow.Author.Tests.{leb-false}
 use native.Mathlib.Decide.{dec_lt, dec_le}
@@ -66,33 +66,47 @@ module _ (rows held wall : List ℕ) (lent : ℕ) where
       go false ea false eb false ec false ed e =
           record { ranged = ltb-false _ _ ea; few = leb-false _ _ eb; room = ltb-false _ _ ec; within = ed }
 
-  -- Which numbers are told, where no total can be above once the tests before have passed.
+  -- Which of the tests a number comes from: the rest of the cases have another.
   pub record Numbers : Type 0 where
-    pub no_total : (addition rows held lent wall).number ≡ no_such_wall → ⊥
     pub walls : (addition rows held lent wall).number ≡ too_many_walls → most_walls ≤ wall_rows rows
     pub space : (addition rows held lent wall).number ≡ lent_space_short → lent < length rows + 8
+    pub totals : (addition rows held lent wall).number ≡ no_such_wall
+        → (8 ≤ column) × (wall_rows rows < most_walls) × (length rows + 8 ≤ lent) × (some_above (storeys rows) (total_added rows held wall) ≡ true)
 
-  pub numbers_told : (8 ≤ column → wall_rows rows < most_walls → length rows + 8 ≤ lent → some_above (storeys rows) (total_added rows held wall) ≡ false) → Numbers
-  numbers_told within = go (dec_lt column 8) (dec_le most_walls (wall_rows rows)) (dec_lt lent (length rows + 8))
+  numbers : Numbers
+  numbers =
+      go (dec_lt column 8) (dec_le most_walls (wall_rows rows)) (dec_lt lent (length rows + 8)) (some_above (storeys rows) (total_added rows held wall)) refl
     where
-      go : Dec (column < 8) → Dec (most_walls ≤ wall_rows rows) → Dec (lent < length rows + 8) → Numbers
-      go (yes l) _ _ =
-          let four = ap (λ (t : Told). t.number) (told_range column refl l) in
-          record { no_total = λ e. omega (arith, four, e); walls = λ e. absurd (omega (arith, four, e)); space = λ e. absurd (omega (arith, four, e)) }
-      go (no l) (yes many) _ =
-          let five = ap (λ (t : Told). t.number) (told_walls (omega arith) many) in
-          record { no_total = λ e. omega (arith, five, e); walls = λ e. many; space = λ e. absurd (omega (arith, five, e)) }
-      go (no l) (no few) (yes short) =
-          let nine = ap (λ (t : Told). t.number) (told_room (omega arith) (omega arith) short) in
-          record { no_total = λ e. omega (arith, nine, e); walls = λ e. absurd (omega (arith, nine, e)); space = λ e. short }
-      go (no l) (no few) (no room) =
-          let none = ap (λ (t : Told). t.number) (passes_told (record {
-            ranged = omega arith;
-            few = omega arith;
-            room = omega arith;
-            within = within (omega arith) (omega arith) (omega arith);
-          })) in
-          record { no_total = λ e. omega (arith, none, e); walls = λ e. absurd (omega (arith, none, e)); space = λ e. absurd (omega (arith, none, e)) }
+      other : {A : Type 0} (n m : ℕ) → (addition rows held lent wall).number ≡ n → (n ≡ m → ⊥) → (addition rows held lent wall).number ≡ m → A
+      other n m e differs z = absurd (differs (sym e ∙ z))
+
+      go : Dec (column < 8) → Dec (most_walls ≤ wall_rows rows) → Dec (lent < length rows + 8)
+          → (b : Bool) → some_above (storeys rows) (total_added rows held wall) ≡ b → Numbers
+      go (yes l) _ _ b f =
+          let four = ap (λ (t : Told). t.number) (sym (told_range column refl l)) in
+          record { walls = other 4 5 four (λ z. omega arith); space = other 4 9 four (λ z. omega arith); totals = other 4 12 four (λ z. omega arith) }
+      go (no l) (yes many) _ b f =
+          let five = ap (λ (t : Told). t.number) (sym (told_walls (omega arith) many)) in
+          record { walls = λ z. many; space = other 5 9 five (λ z. omega arith); totals = other 5 12 five (λ z. omega arith) }
+      go (no l) (no few) (yes short) b f =
+          let nine = ap (λ (t : Told). t.number) (sym (told_room (omega arith) (omega arith) short)) in
+          record { walls = other 9 5 nine (λ z. omega arith); space = λ z. short; totals = other 9 12 nine (λ z. omega arith) }
+      go (no l) (no few) (no room) true f =
+          let twelve = ap (λ (t : Told). t.number) (sym (told_totals (omega arith) (omega arith) (omega arith) f)) in
+          record { walls = other 12 5 twelve (λ z. omega arith); space = other 12 9 twelve (λ z. omega arith); totals = λ z. (omega arith, omega arith, omega arith, f) }
+      go (no l) (no few) (no room) false f =
+          let none = ap (λ (t : Told). t.number) (passes_told (record { ranged = omega arith; few = omega arith; room = omega arith; within = f })) in
+          record { walls = other 0 5 none (λ z. omega arith); space = other 0 9 none (λ z. omega arith); totals = other 0 12 none (λ z. omega arith) }
+
+  pub five_told : (addition rows held lent wall).number ≡ too_many_walls → most_walls ≤ wall_rows rows
+  five_told e = numbers.walls e
+
+  pub nine_told : (addition rows held lent wall).number ≡ lent_space_short → lent < length rows + 8
+  nine_told e = numbers.space e
+
+  pub twelve_told : (addition rows held lent wall).number ≡ no_such_wall
+      → (8 ≤ column) × (wall_rows rows < most_walls) × (length rows + 8 ≤ lent) × (some_above (storeys rows) (total_added rows held wall) ≡ true)
+  twelve_told e = numbers.totals e
 
   -- A wall whose numbers lie in their ranges stands in a storey of the house.
   pub wall_inside : 8 ≤ column → Inside (wall_ranges (storeys rows) (cell wall 0 7)) wall 0

@@ -1,17 +1,24 @@
 -- The theorems about changes, put by what is answered. Assumes nothing.
-use Rattle.std.proofs.Common.{◌≡◌, sym, ap, subst, ◌∙◌, true, false, T, List, ℕ, ◌+◌, ◌-◌, ◌*◌, ◌<◌, ◌≤◌, arith, length, drop, eqb→eq, refl}
-use Rattle.answer.specs.Told.{Told, accepts, too_many_walls, lent_space_short, no_such_wall}
+use Rattle.site.proofs.States.{Found, in_use_long, delete_stands, delete_rows, delete_table_long, delete_fits, delete_judged}
+use Rattle.site.proofs.Changing.{add_next, count_left}
+use Rattle.site.proofs.Checking.{checked, checking_accepts}
+use Rattle.diagnosis.specs.Comparison.{SameOrWorse, BandKept}
+use Rattle.survey.specs.Judgement.{new_wall_column}
+use Rattle.std.proofs.Common.{◌≡◌, sym, ap, subst, ◌∙◌, true, false, T, List, ℕ, ◌+◌, ◌-◌, ◌*◌, ◌<◌, ◌≤◌, arith, length, drop, eqb→eq, refl, get_or}
+use Rattle.answer.specs.Told.{Told, accepts, too_many_walls, lent_space_short, no_such_wall, refusal, out_of_range}
 use Rattle.answer.specs.Length.{most_walls}
-use Rattle.survey.specs.Table.{cell, is_wall, wall_rows}
+use Rattle.survey.specs.Table.{cell, is_wall, wall_rows, storeys}
 use Rattle.survey.proofs.Acceptance.{accepted}
-use Rattle.diagnosis.specs.Answers.{told_refused, scoring}
+use Rattle.diagnosis.specs.Answers.{told_refused, scoring, Scoring, ToldScoring, told_scoring, score_at}
 use Rattle.diagnosis.specs.Rows.{house_of}
-use Rattle.diagnosis.specs.House.{row_share}
+use Rattle.diagnosis.specs.House.{row_share, InHouse}
 use Rattle.diagnosis.specs.Answers.{score_at}
-use Rattle.site.specs.Totals.{total_added, total_taken}
-use Rattle.site.specs.Changes.{State, rows_of, checking, answered, started, starting, after_starting, row_taken, add_told, with_wall, adding, after_adding, delete_told, without_wall, deleting, after_deleting}
-use Rattle.site.specs.Runs.{Change, add, delete, EightNumbers, answer_of, after, Own, OneMoves}
+use Rattle.site.specs.Totals.{total_added, total_taken, some_above}
+use Rattle.site.specs.Changes.{State, rows_of, checking, answered, started, starting, after_starting, row_taken, add_told, with_wall, adding, after_adding, delete_told, without_wall, deleting, after_deleting, addition}
+use Rattle.site.specs.Runs.{Change, add, delete, EightNumbers, answer_of, after, Own, OneMoves, AllEightNumbers, after_run}
 use Rattle.site.proofs.AcceptedChanges.{accepted_left, refused_left, answered_scored, answered_number, answered_refused, add_ready, delete_ready}
+use Rattle.diagnosis.proofs.Comparing as comparing
+use Rattle.site.proofs.Additions as additions
 use Rattle.site.proofs.PutBack as put_back
 use Rattle.site.proofs.Unread as unread
 use Rattle.site.proofs.OwnRuns as own_runs
@@ -47,12 +54,7 @@ module _ (s : State) (own : Own s) where
   pub addition_never_12 : (wall : List ℕ) → length wall ≡ 8 → (adding s wall).number ≡ no_such_wall → ⊥
   addition_never_12 wall eight e =
       let told = answered_number (add_told s wall) (with_wall s wall) no_such_wall (omega arith) e in
-      (own_runs.add_numbers_told s own wall eight).no_total (own_runs.add_number s own wall ∙ told.1)
-
-  pub five_at_the_limit : (wall : List ℕ) → length wall ≡ 8 → (adding s wall).number ≡ too_many_walls → wall_rows (rows_of s) ≡ most_walls
-  five_at_the_limit wall eight e =
-      let told = answered_number (add_told s wall) (with_wall s wall) too_many_walls (omega arith) e in
-      omega (arith, (own_runs.add_numbers_told s own wall eight).walls (own_runs.add_number s own wall ∙ told.1), (accepted (rows_of s) own.rows_accepted).few)
+      own_runs.add_never_twelve s own wall eight told.1
 
   module _ (row : ℕ) where
     pub twelve_names_the_row : (deleting s row).number ≡ no_such_wall → deleting s row ≡ told_refused no_such_wall row 0
@@ -66,16 +68,109 @@ module _ (s : State) (own : Own s) where
         answered_scored (delete_told s row) (without_wall s row)
         ∙ own_runs.wall_deleted s own row some (eqb→eq (cell (rows_of s) (row - 1) 0) 4 (subst T (sym wall) tt))
 
-    pub place_serves_again : (deleting s row).scored ≡ true → (wall : List ℕ) → length wall ≡ 8
-        → ((adding (after_deleting s row) wall).number ≡ too_many_walls → ⊥) × ((adding (after_deleting s row) wall).number ≡ lent_space_short → ⊥)
-    place_serves_again scored wall eight =
-        let e = passed (delete_told s row) (without_wall s row) scored in
-        let serves = own_runs.place_serves s own row e wall eight in
-        let left_is = accepted_left (delete_told s row) s (without_wall s row) e in
-        let number : (n : ℕ) → 0 < n → (adding (after_deleting s row) wall).number ≡ n → (add_told (without_wall s row) wall).number ≡ n =
-        λ n some z. ap (λ (t : State). (add_told t wall).number) (sym left_is)
-        ∙ (answered_number (add_told (after_deleting s row) wall) (with_wall (after_deleting s row) wall) n some z).1 in
-        (λ five. serves.0 (number too_many_walls (omega arith) five), λ nine. serves.1 (number lent_space_short (omega arith) nine))
+-- What is told of an addition where the rows in use pass, test by test, from any record.
+module _ (s : State) (passing : (starting s).scored ≡ true) (wall : List ℕ) where
+  check : accepts (checking s) ≡ true
+  check = passed (checking s) (started s) passing
+
+  abbrev A : List ℕ
+  A = rows_of s
+
+  abbrev column : ℕ
+  column = new_wall_column (storeys A) wall
+
+  A_long : length A ≡ 8 * s.totals.rows
+  A_long = in_use_long s (checked s check).fits
+
+  told_is : (number row column : ℕ) → refusal number row column ≡ addition A s.totals.held (length s.table) wall → adding s wall ≡ told_refused number row column
+  told_is number row column e =
+      let told = e ∙ add_next s wall check in
+      answered_refused (add_told s wall) (with_wall s wall) (sym (ap accepts told)) ∙ ap (λ (t : Told). told_refused t.number t.row t.column) (sym told)
+
+  pub range_told : column < 8 → adding s wall ≡ told_refused out_of_range (row_taken A wall + 1) (column + 1)
+  range_told out = told_is out_of_range _ _ (additions.told_range A s.totals.held wall (length s.table) column refl out)
+
+  pub limit_told : 8 ≤ column → wall_rows A ≡ most_walls → adding s wall ≡ told_refused too_many_walls (row_taken A wall + 1) 1
+  limit_told ranged all = told_is too_many_walls _ 1 (additions.told_walls A s.totals.held wall (length s.table) ranged (omega arith))
+
+  pub space_told : 8 ≤ column → wall_rows A < most_walls → length s.table < 8 * (s.totals.rows + 1) → adding s wall ≡ told_refused lent_space_short 0 0
+  space_told ranged few short =
+      told_is lent_space_short 0 0 (additions.told_room A s.totals.held wall (length s.table) ranged few (omega (arith, A_long)))
+
+  pub totals_told : 8 ≤ column → wall_rows A < most_walls → 8 * (s.totals.rows + 1) ≤ length s.table
+      → some_above (storeys A) (total_added A s.totals.held wall) ≡ true → adding s wall ≡ told_refused no_such_wall 0 0
+  totals_told ranged few room above =
+      told_is no_such_wall 0 0 (additions.told_totals A s.totals.held wall (length s.table) ranged few (omega (arith, A_long)) above)
+
+  pub wall_added : 8 ≤ column → wall_rows A < most_walls → 8 * (s.totals.rows + 1) ≤ length s.table
+      → some_above (storeys A) (total_added A s.totals.held wall) ≡ false → (adding s wall).scored ≡ true
+  wall_added ranged few room within =
+      answered_scored (add_told s wall) (with_wall s wall) ∙ sym (ap accepts (add_next s wall check))
+      ∙ ap accepts (additions.passes_told A s.totals.held wall (length s.table) (record { ranged = ranged; few = few; room = omega (arith, A_long); within = within }))
+
+  -- So 5 comes at the limit alone.
+  pub five_at_the_limit : (adding s wall).number ≡ too_many_walls → wall_rows A ≡ most_walls
+  five_at_the_limit e =
+      let told = answered_number (add_told s wall) (with_wall s wall) too_many_walls (omega arith) e in
+      omega (
+        arith,
+        additions.five_told A s.totals.held wall (length s.table) (ap (λ (t : Told). t.number) (add_next s wall check) ∙ told.1),
+        (accepted A (checked s check).accepted).few,
+      )
+
+-- After a deletion that is accepted the rows in use pass, there are fewer walls than the limit, and a row is left.
+module _ (s : State) (row : ℕ) (scored : (deleting s row).scored ≡ true) where
+  delete_accepts : accepts (delete_told s row) ≡ true
+  delete_accepts = passed (delete_told s row) (without_wall s row) scored
+
+  left_over : after_deleting s row ≡ without_wall s row
+  left_over = accepted_left (delete_told s row) s (without_wall s row) delete_accepts
+
+  f : Found s row
+  f = delete_ready s row delete_accepts
+
+  table_fits : 8 * ((without_wall s row).totals.rows + 1) ≤ length (without_wall s row).table
+  table_fits = omega (arith, count_left s row, delete_fits s row f, delete_table_long s row f, f.fits)
+
+  still_pass : (starting (without_wall s row)).scored ≡ true
+  still_pass =
+      answered_scored (checking (without_wall s row)) (started (without_wall s row))
+      ∙ checking_accepts (without_wall s row) (record { fits = omega (arith, table_fits); accepted = delete_judged s row f })
+
+  fewer : wall_rows (rows_of (without_wall s row)) < most_walls
+  fewer = omega (arith, ap wall_rows (delete_rows s row f), (delete_stands s row f).walls_more, (accepted (rows_of s) f.rows_accepted).few)
+
+  -- So from any record neither 5 nor 9 is told of the next addition,
+  pub place_serves_again : (wall : List ℕ)
+      → ((adding (after_deleting s row) wall).number ≡ too_many_walls → ⊥) × ((adding (after_deleting s row) wall).number ≡ lent_space_short → ⊥)
+  place_serves_again wall =
+      rw left_over (
+        λ five. omega (arith, five_at_the_limit (without_wall s row) still_pass wall five, fewer),
+        λ nine. nine_never nine,
+      )
+    where
+      nine_never : (adding (without_wall s row) wall).number ≡ lent_space_short → ⊥
+      nine_never nine =
+          let t = without_wall s row in
+          let told = answered_number (add_told t wall) (with_wall t wall) lent_space_short (omega arith) nine in
+          let check = passed (checking t) (started t) still_pass in
+          omega (
+            arith,
+            additions.nine_told (rows_of t) t.totals.held wall (length t.table) (ap (λ (x : Told). x.number) (add_next t wall check) ∙ told.1),
+            table_fits,
+            in_use_long t (checked t check).fits,
+          )
+
+  -- and from a record with its own sums every wall in its ranges can be added.
+  pub wall_fits_again : Own s → (wall : List ℕ) → length wall ≡ 8 → 8 ≤ new_wall_column (storeys (rows_of (after_deleting s row))) wall
+      → (adding (after_deleting s row) wall).scored ≡ true
+  wall_fits_again own wall eight =
+      rw left_over (λ ranged.
+      let t = without_wall s row in
+      let next = own_runs.own_left s own row f in
+      let room : length (rows_of t) + 8 ≤ length t.table = omega (arith, table_fits, in_use_long t next.fits) in
+      wall_added t still_pass wall ranged fewer table_fits
+      (own_runs.add_within t wall (record { eight = eight; fits = next.fits; rows_accepted = next.rows_accepted; ranged = ranged; few = fewer; room = room }) next))
 
 module _ (s : State) (wall : List ℕ) (eight : length wall ≡ 8) (scored : (adding s wall).scored ≡ true) where
   e : accepts (add_told s wall) ≡ true
@@ -134,3 +229,22 @@ taken_total s row six scored =
     let e = passed (delete_told s row) (without_wall s row) scored in
     let held_is = ap (λ (t : State). t.totals.held) (accepted_left (delete_told s row) s (without_wall s row) e) ∙ held_without s row in
     rw held_is (record { here = put_back.taken_here s row e six; elsewhere = put_back.taken_other s row e six })
+
+-- Demand 3 on site: of the records that two changes answer, after any runs of changes from records with their own sums.
+pub comparison_on_site : (s t : State) → Own s → Own t → (changes others : List Change) → AllEightNumbers changes → AllEightNumbers others
+    → (change other : Change) → EightNumbers change → EightNumbers other
+    → (a b : Scoring) → told_scoring a ≡ answer_of (after_run s changes) change → told_scoring b ≡ answer_of (after_run t others) other
+    → (told_scoring a).scored ≡ true → (told_scoring b).scored ≡ true
+    → let A = rows_of (after (after_run s changes) change) in
+    let B = rows_of (after (after_run t others) other) in
+    SameOrWorse A B
+    → ((storey direction : ℕ) → InHouse A storey direction → BandKept A B storey direction
+    → get_or (told_scoring b).result.scores (score_at storey direction) 0 ≤ get_or (told_scoring a).result.scores (score_at storey direction) 0)
+    × (((storey direction : ℕ) → InHouse A storey direction → BandKept A B storey direction) → (told_scoring a).result.verdict ≤ (told_scoring b).result.verdict)
+comparison_on_site s t own own' changes others eight eight' change other one one' a b ea eb sa sb worse =
+    let A = rows_of (after (after_run s changes) change) in
+    let B = rows_of (after (after_run t others) other) in
+    let no_better = comparing.comparison A B worse in
+    let fa = ea ∙ answer_fresh (after_run s changes) (own_runs.after_run_own s own changes eight) change one (sym (ap (λ (x : ToldScoring). x.scored) ea) ∙ sa) in
+    let fb = eb ∙ answer_fresh (after_run t others) (own_runs.after_run_own t own' others eight') other one' (sym (ap (λ (x : ToldScoring). x.scored) eb) ∙ sb) in
+    (λ storey direction here kept. no_better.record_full a b fa fb storey direction here kept, λ kept. no_better.record_verdict a b fa fb kept)

@@ -1,29 +1,30 @@
 -- The definitions worked through on P1, by computation, and uses of the theorems. Assumes nothing.
-use Rattle.std.proofs.Common.{◌≡◌, refl, sym, ap, ◌∙◌, true, false, ◌+◌, subst, List, [], ◌∷◌, ◌++◌, arith, get_or}
+use Rattle.diagnosis.specs.Rows.{house_of}
+use Rattle.std.proofs.Common.{◌≡◌, refl, sym, ap, ◌∙◌, true, false, ◌+◌, subst, List, [], ◌∷◌, ◌++◌, arith, get_or, ◌<◌, ◌≤◌, drop}
 use Rattle.answer.specs.Told.{Told, accepts, counted, refusal}
 use Rattle.answer.specs.First.{first}
-use Rattle.answer.specs.Lists.{over}
+use Rattle.answer.specs.Lists.{over, joined}
 use Rattle.answer.specs.Length.{rows_in}
 use Rattle.answer.specs.Houses.{p1, two_storeys}
-use Rattle.survey.specs.Table.{wall_rows}
+use Rattle.survey.specs.Table.{wall_rows, storeys}
 use Rattle.survey.specs.Judgement.{outside, leftmost, judging, new_wall_column}
 use Rattle.survey.proofs.Examples.{p1_judged}
 use Rattle.survey.specs.Walls.{rows_from}
 use Rattle.method.specs.Printed.{nth}
 use Rattle.method.specs.Held.{position, foundation_used, shared_row, top_entry, entry_in, entry, interpolated, row_factor, joint_factor, solid_share, opening_share, wall_share}
 use Rattle.method.specs.Held.{held_strength}
-use Rattle.diagnosis.specs.House.{in_direction, held}
-use Rattle.diagnosis.specs.Answers.{ToldScoring, number_at}
+use Rattle.diagnosis.specs.House.{in_direction, held, row_share}
+use Rattle.diagnosis.specs.Answers.{ToldScoring, number_at, six_numbers}
 use Rattle.diagnosis.proofs.Examples.{p1_walls}
 use Rattle.diagnosis.proofs.ScoreLists.{one_or_two}
 use Rattle.site.specs.Runs.{add, delete, answer_of, after, after_run, Own}
-use Rattle.site.proofs.AcceptedChanges.{answered_scored, answered_refused}
-use Rattle.site.proofs.OwnRuns.{after_own}
+use Rattle.site.proofs.AcceptedChanges.{accepted_left, answered_scored, answered_refused}
+use Rattle.site.proofs.OwnRuns.{after_own, wall_deleted}
 use Rattle.survey.proofs.Acceptance.{accepted_count}
 use Rattle.site.specs.Rows.{with_row, without_row, after_last, row_due}
 use Rattle.site.specs.Totals.{total_added, total_taken, some_above}
-use Rattle.site.specs.Changes.{on, rows_of, checking, started, starting, left, row_taken, adding, deleting, addition, add_told, with_wall, deletion, delete_told, without_wall, empty_row}
-use Rattle.site.specs.Worked.{behind, p1_with, own_totals, p1_site, middle_wall, p1_wider, p1_without_window, worked_checks, expected_checks, worked_additions, expected_additions, worked_deletions, expected_deletions, worked_run, site_wider, site_after}
+use Rattle.site.specs.Changes.{on, rows_of, checking, started, starting, left, row_taken, adding, deleting, addition, add_told, with_wall, deletion, delete_told, without_wall, empty_row, State, after_deleting}
+use Rattle.site.specs.Worked.{behind, p1_with, own_totals, p1_site, middle_wall, p1_wider, p1_without_window, worked_checks, expected_checks, worked_additions, expected_additions, worked_deletions, expected_deletions, worked_run, site_wider, site_after, nines, over_the_most}
 
 -- No row is refused as a table of no length.
 none_judged : judging [] ≡ refusal 1 0 0
@@ -151,3 +152,83 @@ six_walls = refl
 pub row_eleven : row_taken (rows_of p1_site) (middle_wall 1) + 1 ≡ 11
 unfolding rows_due_lem
 row_eleven = refl
+
+-- A start and an addition from totals that are no sums (document 02's example, by its numbers).
+own_sums : six_numbers p1 (held p1) ≡ own_totals
+unfolding six_numbers over joined
+own_sums = rw (p1_held.0, p1_held.1) refl
+
+pub start_worked : started (p1_with nines 12) ≡ p1_site
+unfolding started
+start_worked = rw own_sums refl
+
+pub other_added : with_wall (p1_with (0 ∷ 0 ∷ 7 ∷ 7 ∷ 7 ∷ 7 ∷ []) 12) (middle_wall 1)
+    ≡ on (p1_wider ++ drop 8 behind) (record { held = 4_000_000 ∷ 0 ∷ 7 ∷ 7 ∷ 7 ∷ 7 ∷ []; rows = 13 })
+unfolding additions_told with_wall with_row over
+other_added = refl
+
+-- Premises again: P1's rows pass, with the most room and with none; the walls of P1; a wall in its ranges and one that is not.
+passes_judged : (s : State) → accepts (checking s) ≡ true → (starting s).scored ≡ true
+passes_judged s e = answered_scored (checking s) (started s) ∙ e
+
+pub own_scored : (starting p1_site).scored ≡ true
+unfolding checking
+own_scored = passes_judged p1_site (ap accepts p1_judged)
+
+pub over_scored : (starting (p1_with over_the_most 12)).scored ≡ true
+unfolding checking
+over_scored = passes_judged (p1_with over_the_most 12) (ap accepts p1_judged)
+
+pub full_scored : (starting (on p1 p1_site.totals)).scored ≡ true
+unfolding checking
+full_scored = passes_judged (on p1 p1_site.totals) (ap accepts p1_judged)
+
+pub full_own : Own (on p1 p1_site.totals)
+full_own = record { six = refl; fits = omega arith; rows_accepted = p1_own.rows_accepted; sums = p1_own.sums }
+
+pub six_walls_full : wall_rows (rows_of (on p1 p1_site.totals)) ≡ 6
+unfolding wall_rows first
+six_walls_full = refl
+
+pub middle_ranged : 8 ≤ new_wall_column 1 (middle_wall 1)
+unfolding new_wall_column leftmost outside first
+middle_ranged = omega arith
+
+full_deleted : accepts (delete_told (on p1 p1_site.totals) 6) ≡ true
+full_deleted = wall_deleted (on p1 p1_site.totals) full_own 6 (omega arith) refl
+
+storeys_left : storeys (rows_of (without_wall (on p1 p1_site.totals) 6)) ≡ 1
+unfolding without_wall without_row over
+storeys_left = refl
+
+pub middle_ranged_after : 8 ≤ new_wall_column (storeys (rows_of (after_deleting (on p1 p1_site.totals) 6))) (middle_wall 1)
+middle_ranged_after =
+    let left_is = accepted_left (delete_told (on p1 p1_site.totals) 6) (on p1 p1_site.totals) (without_wall (on p1 p1_site.totals) 6) full_deleted in
+    rw (left_is, storeys_left) middle_ranged
+
+pub column_two : new_wall_column 1 (middle_wall 0) ≡ 1
+unfolding middle_ranged
+column_two = refl
+
+pub storey_0_out : new_wall_column (storeys (rows_of p1_site)) (middle_wall 0) < 8
+storey_0_out = rw column_two (omega arith)
+
+pub row_five : row_taken (rows_of p1_site) (middle_wall 0) ≡ 4
+unfolding rows_due_lem
+row_five = refl
+
+pub total_above : some_above 1 (total_added p1 over_the_most (middle_wall 1)) ≡ true
+unfolding additions_told
+total_above = refl
+
+pub totals_within : some_above 1 (total_added p1 own_totals (middle_wall 1)) ≡ false
+unfolding additions_told
+totals_within = refl
+
+pub middle_share : 9_200_000 + row_share (house_of p1) (middle_wall 1) 0 ≡ 13_200_000
+unfolding additions_told
+middle_share = refl
+
+pub window_share : row_share (house_of p1) p1 5 ≡ 1_200_000
+unfolding additions_told
+window_share = refl

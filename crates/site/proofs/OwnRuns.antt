@@ -1,13 +1,13 @@
 -- A record with its own sums keeps them, whatever is added and deleted. Assumes nothing.
-use Rattle.std.proofs.Common.{◌≡◌, refl, sym, ap, subst, ◌∙◌, Bool, true, false, cond, List, [], ◌∷◌, ℕ, ◌+◌, ◌-◌, ◌*◌, ◌<◌, ◌≤◌, arith, length, eqb, eq-eqb}
+use Rattle.std.proofs.Common.{◌≡◌, refl, sym, ap, subst, ◌∙◌, Bool, true, false, cond, List, [], ◌∷◌, ℕ, ◌+◌, ◌-◌, ◌*◌, ◌<◌, ◌≤◌, arith, length, eqb, eq-eqb, T}
 use Rattle.std.proofs.lemmas.List.{length-set}
 use borrow.Author.Tests.{eqb-true, eqb-false}
-use Rattle.answer.specs.Told.{Told, accepts, refusal, too_many_walls, lent_space_short, no_such_wall}
+use Rattle.answer.specs.Told.{Told, accepts, refusal, no_such_wall}
 use Rattle.answer.specs.Length.{most_walls}
 use Rattle.survey.specs.Table.{cell, storeys, wall_rows}
 use Rattle.survey.specs.Judgement.{judging, new_wall_column}
 use Rattle.survey.specs.Walls.{is_wall_of}
-use Rattle.survey.proofs.Acceptance.{accepted, made_accepted}
+use Rattle.survey.proofs.Acceptance.{made_accepted}
 use Rattle.survey.proofs.RefusalNumbers.{judging_accepts, accepted_number}
 use Rattle.diagnosis.specs.Rows.{house_of}
 use Rattle.diagnosis.specs.House.{InHouse, share, row_share, held}
@@ -21,11 +21,11 @@ use Rattle.site.specs.Runs.{Change, add, delete, EightNumbers, change_told, answ
 use Rattle.site.proofs.SixTotals.{total_set, total_other}
 use Rattle.site.proofs.Checking.{checked, checking_judged, checking_accepts}
 use Rattle.site.proofs.PutRows.{same_house}
-use Rattle.site.proofs.States.{in_use_long, Ready, add_ranged, add_numbers, add_kind, add_put, add_stands, add_made, add_rows, add_table_long, add_fits, add_judged, Found, delete_put, delete_stands, delete_made, delete_ranged, delete_rows, delete_table_long, delete_fits, delete_judged}
+use Rattle.site.proofs.States.{Ready, add_ranged, add_numbers, add_kind, add_put, add_stands, add_made, add_rows, add_table_long, add_fits, add_judged, Found, delete_put, delete_stands, delete_made, delete_ranged, delete_rows, delete_table_long, delete_judged}
 use Rattle.site.proofs.OwnSums.{own_within, sums_six, sums_own}
 use Rattle.site.proofs.Additions as additions
 use Rattle.site.proofs.Deletions as deletions
-use Rattle.site.proofs.Changing.{add_next, delete_next, count_left}
+use Rattle.site.proofs.Changing.{add_next, delete_next}
 use Rattle.site.proofs.RowSums.{counted, held_put}
 
 -- A wall counts towards its own storey and direction, and no other.
@@ -247,11 +247,14 @@ module _ (s : State) (own : Own s) where
       let p = deletions.told_passes (rows_of s) s.totals.held row (ap accepts (delete_is row) ∙ e) in
       record { fits = own.fits; rows_accepted = own.rows_accepted; some = p.wall.some; kind = p.wall.kind }
 
-  -- Which numbers an addition is refused with.
-  pub add_numbers_told : (wall : List ℕ) → length wall ≡ 8 → additions.Numbers (rows_of s) s.totals.held wall (length s.table)
-  add_numbers_told wall eight =
-      additions.numbers_told (rows_of s) s.totals.held wall (length s.table)
-      (λ ranged few room. add_within s wall (ready_of wall eight ranged few room) own)
+  -- An addition is not refused with 12: no total can be above the most once the tests before have passed.
+  pub add_never_twelve : (wall : List ℕ) → length wall ≡ 8 → (add_told s wall).number ≡ no_such_wall → ⊥
+  add_never_twelve wall eight e =
+      let told = additions.twelve_told (rows_of s) s.totals.held wall (length s.table) (ap (λ (t : Told). t.number) (add_is wall) ∙ e) in
+      true_false (sym told.3 ∙ add_within s wall (ready_of wall eight told.0 told.1 told.2) own)
+    where
+      true_false : ◌≡◌ {A = Bool} true false → ⊥
+      true_false e = subst T e tt
 
   -- A deletion's 12 names the row.
   pub delete_twelve : (row : ℕ) → (delete_told s row).number ≡ no_such_wall → delete_told s row ≡ refusal no_such_wall row 0
@@ -262,10 +265,6 @@ module _ (s : State) (own : Own s) where
       let f : Found s row = record { fits = own.fits; rows_accepted = own.rows_accepted; some = wall.some; kind = wall.kind } in
       (enough_held s own row f, left_within s own row f))
       (ap (λ (t : Told). t.number) (delete_is row) ∙ e)
-
--- What is told of an addition has the number of its tests.
-pub add_number : (s : State) (own : Own s) (wall : List ℕ) → (addition (rows_of s) s.totals.held (length s.table) wall).number ≡ (add_told s wall).number
-add_number s own wall = ap (λ (t : Told). t.number) (add_is s own wall)
 
 -- One change keeps the sums, whatever it is told.
 keeps : (tells : Told) (before after : State) → Own before → (accepts tells ≡ true → Own after) → Own (left tells before after)
@@ -311,38 +310,13 @@ started_fresh s fits = rw (checking_judged s fits) (go (accepts (judging (rows_o
     go true e = ap told_scored (record_own R (number_at (six_numbers R (held R))) (sums_own R (accepted_number R e)))
     go false e = refl
 
--- A wall of a record with its own sums can be deleted,
-module _ (s : State) (own : Own s) (row : ℕ) where
-  pub wall_deleted : 0 < row → cell (rows_of s) (row - 1) 0 ≡ 4 → accepts (delete_told s row) ≡ true
-  wall_deleted some kind =
-      let f : Found s row = record { fits = own.fits; rows_accepted = own.rows_accepted; some = some; kind = kind } in
-      sym (ap accepts (delete_is s own row))
-      ∙ ap accepts (deletions.passes_told (rows_of s) s.totals.held row (record {
-        wall = deletions.wall_here (rows_of s) s.totals.held row some kind;
-        enough_held = enough_held s own row f;
-        within = left_within s own row f;
-      }))
-
-  -- and its place serves again: then there are fewer walls than the limit, and there is a row left.
-  pub place_serves : accepts (delete_told s row) ≡ true → (wall : List ℕ) → length wall ≡ 8
-      → ((add_told (without_wall s row) wall).number ≡ too_many_walls → ⊥) × ((add_told (without_wall s row) wall).number ≡ lent_space_short → ⊥)
-  place_serves e wall eight =
-      let f = delete_found s own row e in
-      let next = own_left s own row f in
-      let numbers = add_numbers_told (without_wall s row) next wall eight in
-      let add = add_is (without_wall s row) next wall in
-      let fewer : wall_rows (rows_of (without_wall s row)) + 1 ≡ wall_rows (rows_of s) =
-      omega (arith, ap wall_rows (delete_rows s row f), (delete_stands s row f).walls_more) in
-      let most = (accepted (rows_of s) own.rows_accepted).few in (
-        λ five. omega (arith, numbers.walls (ap (λ (t : Told). t.number) add ∙ five), fewer, most),
-        λ nine.
-            omega (
-              arith,
-              numbers.space (ap (λ (t : Told). t.number) add ∙ nine),
-              in_use_long (without_wall s row) next.fits,
-              count_left s row,
-              delete_fits s row f,
-              delete_table_long s row f,
-              own.fits,
-            ),
-      )
+-- A wall of a record with its own sums can be deleted.
+pub wall_deleted : (s : State) → Own s → (row : ℕ) → 0 < row → cell (rows_of s) (row - 1) 0 ≡ 4 → accepts (delete_told s row) ≡ true
+wall_deleted s own row some kind =
+    let f : Found s row = record { fits = own.fits; rows_accepted = own.rows_accepted; some = some; kind = kind } in
+    sym (ap accepts (delete_is s own row))
+    ∙ ap accepts (deletions.passes_told (rows_of s) s.totals.held row (record {
+      wall = deletions.wall_here (rows_of s) s.totals.held row some kind;
+      enough_held = enough_held s own row f;
+      within = left_within s own row f;
+    }))

@@ -5,7 +5,7 @@ use Rattle.answer.specs.Told.{Told, accepts}
 use Rattle.answer.specs.Lists.{over}
 use Rattle.diagnosis.specs.Answers.{told_scored, told_refused, number_at, record_with}
 use Rattle.site.specs.Rows.{with_row, without_row}
-use Rattle.site.specs.Changes.{State, rows_of, checking, started, starting, answered, left, row_taken, add_told, with_wall, delete_told, without_wall, empty_row}
+use Rattle.site.specs.Changes.{State, rows_of, checking, started, starting, after_starting, answered, left, row_taken, add_told, with_wall, delete_told, without_wall, empty_row}
 use Rattle.site.specs.Runs.{Change, add, delete, EightNumbers, answer_of, after, after_run, AllEightNumbers, Alike}
 use Rattle.site.proofs.States.{Ready, add_rows, add_table_long, add_long, Found, delete_rows, delete_table_long, delete_long}
 use Rattle.site.proofs.AcceptedChanges.{add_ready, delete_ready}
@@ -116,6 +116,10 @@ started_alike s t alike = record { totals = rw (alike.rows, alike.totals) refl; 
 pub start_alike : (s t : State) → Alike s t → starting s ≡ starting t
 start_alike s t alike =
     answered_alike (checking s) (checking t) s t (started s) (started t) (checking_alike s t alike) alike (λ e. started_alike s t alike)
+
+pub after_start_alike : (s t : State) → Alike s t → Alike (after_starting s) (after_starting t)
+after_start_alike s t alike =
+    left_alike (checking s) (checking t) s t (started s) (started t) (checking_alike s t alike) alike (λ e. started_alike s t alike)
 
 -- The numbers behind the rows in use stay, but for those over which a wall that is added moves the last row.
 module _ (s : State) (wall : List ℕ) (t : Ready s wall) where

@@ -1,4 +1,4 @@
--- What the examples speak of: P1 (document 01, "Houses worked through") on site, with two rows behind those in use, and a house of two storeys.
+-- What the examples speak of: P1 (document 01, "Houses worked through") on site, with two rows behind those in use.
 use Rattle.std.specs.Prelude.{List, [], ◌∷◌, ◌++◌, ℕ, take, drop, map, set}
 use Rattle.answer.specs.Told.{Told, counted, refusal}
 use Rattle.answer.specs.Houses.{p1}
@@ -19,7 +19,14 @@ own_totals = 9_200_000 ∷ 16_000_000 ∷ 0 ∷ 0 ∷ 0 ∷ 0 ∷ []
 abbrev pub p1_site : State
 p1_site = p1_with own_totals 12
 
--- A wall to add: in X, in the middle, 2.0 kN/m and 2 m long; in a storey; and with a number changed.
+-- Totals that are no sums, and totals of which one is above the most.
+abbrev pub nines : List ℕ
+nines = 9 ∷ 9 ∷ 9 ∷ 9 ∷ 9 ∷ 9 ∷ []
+
+abbrev pub over_the_most : List ℕ
+over_the_most = 0 ∷ 60_000_000_001 ∷ 0 ∷ 0 ∷ 0 ∷ 0 ∷ []
+
+-- A wall to add to a storey: in X, in the middle, 2.0 kN/m and 2 m long.
 abbrev pub middle_wall : ℕ → List ℕ
 middle_wall storey = 4 ∷ storey ∷ 1 ∷ 2 ∷ 20 ∷ 2000 ∷ 1 ∷ 1 ∷ []
 
@@ -46,20 +53,22 @@ worked_checks = map (λ rows. checking (p1_with own_totals rows)) (12 ∷ 0 ∷ 
 abbrev pub expected_checks : List Told
 expected_checks = counted 12 ∷ refusal 1 0 0 ∷ refusal 1 0 0 ∷ []
 
--- of walls that are added (of storey 1, 0 and 2; of kind 5; of type 4; with no row left, first in place of another refusal; and by totals that would or
--- would not lie above the most, that of a storey which the house lacks among them),
+-- of walls that are added (of storey 1, 0 and 2; of kind 5; of type 4; with no row left, where 4 comes before 9; by totals that would or would not lie above
+-- the most, that of a storey which the house lacks among them; and with no row left and a total above, where 9 comes before 12),
 abbrev pub worked_additions : List Told
 worked_additions =
     map (add_told p1_site) (middle_wall 1 ∷ middle_wall 0 ∷ middle_wall 2 ∷ set (middle_wall 1) 0 5 ∷ set (middle_wall 1) 7 4 ∷ [])
     ++ map (add_told (on p1 (record { held = own_totals; rows = 12 }))) (middle_wall 1 ∷ middle_wall 0 ∷ [])
     ++ map (λ held. add_told (p1_with held 12) (middle_wall 1))
-    ((59_996_000_000 ∷ 0 ∷ 9_223_372_036_854_775_808 ∷ 0 ∷ 0 ∷ 0 ∷ []) ∷ (59_996_000_001 ∷ 0 ∷ 0 ∷ 0 ∷ 0 ∷ 0 ∷ []) ∷ (0 ∷ 60_000_000_001 ∷ 0 ∷ 0 ∷ 0 ∷ 0 ∷ []) ∷ [])
+    ((59_996_000_000 ∷ 0 ∷ 9_223_372_036_854_775_808 ∷ 0 ∷ 0 ∷ 0 ∷ []) ∷ (59_996_000_001 ∷ 0 ∷ 0 ∷ 0 ∷ 0 ∷ 0 ∷ []) ∷ over_the_most ∷ [])
+    ++ (add_told (on p1 (record { held = over_the_most; rows = 12 })) (middle_wall 1) ∷ [])
 
 abbrev pub expected_additions : List Told
 expected_additions =
     counted 13 ∷ refusal 4 5 2 ∷ refusal 4 11 2 ∷ refusal 4 11 1 ∷ refusal 4 11 8
     ∷ refusal 9 0 0 ∷ refusal 4 5 2
     ∷ counted 13 ∷ refusal 12 0 0 ∷ refusal 12 0 0
+    ∷ refusal 9 0 0
     ∷ []
 
 -- and of walls that are deleted (the window, an end, the parts row, no row and one that isn't in use; and by totals).
