@@ -1,5 +1,5 @@
 -- Document 01's houses worked through, from P1's sheet to its report, by computation. Assumes nothing.
-use Rattle.std.proofs.Common.{◌≡◌, refl, sym, ◌∙◌, false, map, Ok, List, [], ◌∷◌, ℕ, ◌+◌, ◌*◌, ◌≤◌, max, le_refl, lit≤, get_or, set, take, replicate, le-ltb}
+use Rattle.std.proofs.Common.{arith, ◌≡◌, refl, sym, ◌∙◌, false, map, Ok, List, [], ◌∷◌, ℕ, ◌+◌, ◌*◌, ◌≤◌, max, le_refl, lit≤, get_or, set, take, replicate, le-ltb}
 use Rattle.answer.specs.Told.{counted, refusal}
 use Rattle.answer.specs.First.{first}
 use Rattle.answer.specs.Length.{rows_in}
@@ -17,20 +17,21 @@ use Rattle.survey.specs.Walls.{rows_from, rows_where, is_wall_of, storey_walls}
 use Rattle.survey.proofs.Examples.{p1_judged, zones_known}
 use Rattle.survey.proofs.Examples as survey
 use Rattle.method.specs.Printed.{nth}
-use Rattle.method.specs.Held.{position, foundation_used, shared_row, top_entry, entry_in, entry, interpolated, row_factor, joint_factor, solid_share, opening_share, wall_share, held_strength}
+use Rattle.method.specs.Held.{position, foundation_used, shared_row, top_entry, entry_in, entry, interpolated, row_factor, joint_factor, solid_share, opening_share, wall_share, held_strength, most_held}
 use Rattle.method.specs.Required.{top_line, constant, snow_addition, per_area, ground_factor, is_narrow, narrow_factor, required_strength}
 use Rattle.method.specs.LayoutFactor.{reached, band, floor_type, layout_factor}
 use Rattle.method.specs.Deterioration.{points, counted_marks, fraction, factor_of, deterioration_factor, after_repair}
 use Rattle.method.specs.Score.{quotient, limited, score, score_before_layout, verdict}
 use Rattle.method.specs.Worked.{worked, expected}
 use Rattle.method.proofs.Examples.{worked_out}
+use Rattle.diagnosis.proofs.ScoreLists.{one_or_two}
 use Rattle.diagnosis.specs.Rows.{end_a, end_b}
 use Rattle.method.specs.declared.scores.Quotient.{Quotient}
-use Rattle.diagnosis.specs.House.{in_direction, solid_at_end, held, end_held, narrow_storey, narrow, required_of, required, end_required, end_band, higher_band, storey_floor_type, layout, deterioration, strengths_with, score_before, score_with, quotient_with, full_score, full_quotient, scores, least_of, least_score, house_verdict, started_by_31_may_1981}
+use Rattle.diagnosis.specs.House.{in_direction, solid_at_end, held, end_held, narrow_storey, narrow, required_of, required, end_required, end_band, higher_band, storey_floor_type, layout, deterioration, strengths_with, score_before, score_with, quotient_with, full_score, full_quotient, scores, least_of, least_score, house_verdict, started_by_31_may_1981, scores_with, InHouse}
 use Rattle.diagnosis.specs.declared.held.HeldSums.{HeldSums}
 use Rattle.method.specs.declared.verdicts.Verdict.TheVariants.{LikelyToCollapse}
 use Rattle.diagnosis.specs.Internal.{held_sums}
-use Rattle.diagnosis.specs.Answers.{ToldRecord, told_refused, Scoring, told_scoring, six_numbers, record_with, record_of, scoring, score_at}
+use Rattle.diagnosis.specs.Answers.{ToldRecord, told_refused, Scoring, told_scoring, six_numbers, record_with, record_of, scoring, score_at, number_at, counted_as}
 use Rattle.diagnosis.specs.Report.{result_rows, report_rows, report_bytes, reporting, refusal_line}
 use Rattle.diagnosis.specs.Program.{most_numbers, table_of, diagnosing, after_diagnosing, most_report_bytes, output}
 use Rattle.diagnosis.specs.Worked.{p1_report, p1_record, sound_record, all_worse_record, like_p1, small_floor, with_parts, repaired_with_parts, with_middle_wall, on_the_ground, p10, under_ten_day, ten_day, storeys_and_ends, worked_narrow, expected_narrow, sound, heavy, zone100, soft_ground, over_ten, more_marks, all_worse, started_on, under_snow, snowy_sound, snowy_worse, repaired_sound, repaired_worse, weak_joints, figures, same_bands}
@@ -74,6 +75,21 @@ p10_factor zone = refl
 pub p1_scores : scores p1 ≡ 47 ∷ 83 ∷ []
 unfolding scores joined score_with quotient_with score_before layout higher_band end_band end_required required required_of narrow narrow_storey storey_floor_type held end_held solid_at_end in_direction rows_from wall_rows first nth position foundation_used shared_row top_entry entry_in entry interpolated row_factor joint_factor solid_share opening_share wall_share held_strength top_line constant snow_addition per_area ground_factor is_narrow narrow_factor required_strength reached band floor_type layout_factor points counted_marks factor_of deterioration_factor after_repair quotient score is_leap days_in is_date ten_years_after age_on
 p1_scores = rw (p1_walls, p1_factor)
+
+-- And by held strengths that are given, as document 02's request 7 has them in an example; a held strength above 60,000 kN counts as that.
+pub given_scores : scores_with p1 (number_at (4_000_000 ∷ 0 ∷ 7 ∷ 7 ∷ 7 ∷ 7 ∷ [])) ≡ 20 ∷ 0 ∷ []
+unfolding p1_scores
+given_scores = rw (p1_walls, p1_factor)
+
+pub given_most : counted_as (60_000_000_001 ∷ 60_000_000_000 ∷ 0 ∷ 0 ∷ 0 ∷ 5 ∷ []) 1 1 ∷ counted_as (60_000_000_001 ∷ 60_000_000_000 ∷ 0 ∷ 0 ∷ 0 ∷ 5 ∷ []) 1 2
+    ∷ counted_as (60_000_000_001 ∷ 60_000_000_000 ∷ 0 ∷ 0 ∷ 0 ∷ 5 ∷ []) 3 2 ∷ []
+    ≡ 60_000_000_000 ∷ 60_000_000_000 ∷ 5 ∷ []
+given_most = refl
+
+pub given_small : (storey direction : ℕ) → InHouse p1 storey direction → number_at (4_000_000 ∷ 0 ∷ 7 ∷ 7 ∷ 7 ∷ 7 ∷ []) storey direction ≤ most_held
+given_small storey direction here =
+    let ground : storey ≡ 1 = omega (arith, here.some_storey, here.last_storey) in
+    rw ground (one_or_two (λ d. number_at (4_000_000 ∷ 0 ∷ 7 ∷ 7 ∷ 7 ∷ 7 ∷ []) 1 d ≤ most_held) (omega arith) (omega arith) direction here.some_direction here.last_direction)
 
 p1_rows : report_rows p1 ≡
     6 ∷ 1 ∷ 1 ∷ 920 ∷ 1600 ∷ 100 ∷ 83 ∷ 47

@@ -1,6 +1,6 @@
 -- The theorems about a house's diagnosis, in the order of document 01. Each is proved where it is cited from; the words of its statement are
 -- defined in specs/. Assumes nothing.
-use Rattle.std.proofs.Common.{◌≡◌, Result, Ok, true, false, List, [], ◌∷◌, ℕ, ◌+◌, ◌*◌, ◌<◌, ◌≤◌, le_refl, min, arith, length, get_or, set, take, replicate, eqb}
+use Rattle.std.proofs.Common.{◌≡◌, Result, Ok, true, false, List, [], ◌∷◌, ℕ, ◌+◌, ◌*◌, ◌<◌, ◌≤◌, le_refl, min, arith, length, get_or, set, take, replicate, eqb, refl}
 use Rattle.answer.specs.declared.refusal.Refusal.{Refusal}
 use Rattle.answer.specs.Told.{told, counted, lent_space_short}
 use Rattle.answer.specs.Text.{bytes}
@@ -10,13 +10,15 @@ use Rattle.sheet.specs.Sheet.{writing, after_writing}
 use Rattle.survey.specs.Table.{cell, storeys}
 use Rattle.survey.specs.Judgement.{judging, within}
 use Rattle.method.specs.Worked.{worked, expected}
+use Rattle.method.specs.Held.{most_held}
 use Rattle.diagnosis.specs.Rows.{storey_of, weight, zone, ground_class, marked, repaired, survey_day}
-use Rattle.diagnosis.specs.House.{InHouse, held, narrow, required, layout, higher_band, deterioration, score_before, full_score, least_score, house_verdict}
-use Rattle.diagnosis.specs.Answers.{Scoring, told_scoring, record_of, scoring, score_at}
+use Rattle.diagnosis.specs.House.{InHouse, held, narrow, required, layout, higher_band, deterioration, score_before, full_score, least_score, house_verdict, scores_with}
+use Rattle.diagnosis.specs.Answers.{Scoring, told_scoring, record_of, scoring, score_at, number_at, counted_as, record_with}
 use Rattle.diagnosis.specs.Report.{report_rows, report_lines, report_bytes, reporting}
 use Rattle.diagnosis.specs.Program.{table_of, diagnosing, after_diagnosing, most_report_bytes, output}
 use Rattle.diagnosis.specs.Comparison.{may_differ, NoLower, SameOrWorse, BandKept, NoBetter, Applies}
 use Rattle.diagnosis.specs.Worked.{p1_report, p1_record, sound_record, all_worse_record, small_floor, with_parts, repaired_with_parts, with_middle_wall, on_the_ground, p10, storeys_and_ends, by_sides, worked_narrow, expected_narrow, sound, heavy, zone100, soft_ground, over_ten, more_marks, all_worse, started_on, under_snow, snowy_sound, snowy_worse, as_repaired, repaired_sound, repaired_worse, weak_joints, figures, same_bands}
+use Rattle.diagnosis.proofs.GivenStrengths as given_strengths
 use Rattle.diagnosis.proofs.NarrowStoreys as narrow_storeys
 use Rattle.diagnosis.proofs.ScoreLists as score_lists
 use Rattle.diagnosis.proofs.RecordNumbers as record_numbers
@@ -25,6 +27,32 @@ use Rattle.diagnosis.proofs.Reporting as program
 use Rattle.diagnosis.proofs.Comparing as comparing
 use Rattle.diagnosis.proofs.Examples as examples
 use Rattle.diagnosis.proofs.Pairs as pairs
+
+-- Held strengths that are given
+
+-- What a house's own walls hold has the house's record, and so have given strengths that are the same for the house's storeys; of given strengths none
+-- above 60,000 kN counts as another than it is.
+pub record_own : (table : List ℕ) (given : ℕ → ℕ → ℕ) → ((storey direction : ℕ) → InHouse table storey direction → given storey direction ≡ held table storey direction)
+    → record_with table given ≡ record_of table
+record_own table given own = given_strengths.record_own table given own
+
+pub record_counted : (table given : List ℕ) → ((storey direction : ℕ) → InHouse table storey direction → number_at given storey direction ≤ most_held)
+    → record_with table (counted_as given) ≡ record_with table (number_at given)
+record_counted table given small = given_strengths.record_counted table given small
+
+-- P1's scores by given strengths, document 02's example of request 7, and what strengths up to and above 60,000 kN count as.
+pub given_worked :
+    let most : List ℕ = 60_000_000_001 ∷ 60_000_000_000 ∷ 0 ∷ 0 ∷ 0 ∷ 5 ∷ [] in
+    (scores_with p1 (number_at (4_000_000 ∷ 0 ∷ 7 ∷ 7 ∷ 7 ∷ 7 ∷ [])) ≡ 20 ∷ 0 ∷ [])
+    × (counted_as most 1 1 ∷ counted_as most 1 2 ∷ counted_as most 3 2 ∷ [] ≡ 60_000_000_000 ∷ 60_000_000_000 ∷ 5 ∷ [])
+given_worked = (examples.given_scores, examples.given_most)
+
+-- The theorems used, of P1 and its own strengths.
+pub p1_record_own : record_with p1 (held p1) ≡ record_of p1
+p1_record_own = record_own p1 (held p1) (λ storey direction here. refl)
+
+pub p1_record_counted : record_with p1 (counted_as (4_000_000 ∷ 0 ∷ 7 ∷ 7 ∷ 7 ∷ 7 ∷ [])) ≡ record_with p1 (number_at (4_000_000 ∷ 0 ∷ 7 ∷ 7 ∷ 7 ∷ 7 ∷ []))
+p1_record_counted = record_counted p1 (4_000_000 ∷ 0 ∷ 7 ∷ 7 ∷ 7 ∷ 7 ∷ []) (λ storey direction here. examples.given_small storey direction here)
 
 -- Required strength
 

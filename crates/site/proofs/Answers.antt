@@ -4,17 +4,17 @@ use Rattle.site.proofs.Changing.{add_next, count_left}
 use Rattle.site.proofs.Checking.{checked, checking_accepts}
 use Rattle.diagnosis.specs.Comparison.{SameOrWorse, BandKept}
 use Rattle.survey.specs.Judgement.{new_wall_column}
-use Rattle.std.proofs.Common.{◌≡◌, sym, ap, subst, ◌∙◌, true, false, T, List, ℕ, ◌+◌, ◌-◌, ◌*◌, ◌<◌, ◌≤◌, arith, length, drop, eqb→eq, refl, get_or}
+use Rattle.std.proofs.Common.{◌≡◌, sym, ap, subst, ◌∙◌, true, false, T, List, ℕ, ◌+◌, ◌-◌, ◌*◌, ◌<◌, ◌≤◌, arith, length, drop, eqb→eq, refl, get_or, Bool, cond}
 use Rattle.answer.specs.Told.{Told, accepts, too_many_walls, lent_space_short, no_such_wall, refusal, out_of_range}
 use Rattle.answer.specs.Length.{most_walls}
 use Rattle.survey.specs.Table.{cell, is_wall, wall_rows, storeys}
 use Rattle.survey.proofs.Acceptance.{accepted}
-use Rattle.diagnosis.specs.Answers.{told_refused, scoring, Scoring, ToldScoring, told_scoring, score_at}
+use Rattle.diagnosis.specs.Answers.{told_refused, scoring, Scoring, ToldScoring, told_scoring, score_at, told_scored, record_with, number_at}
 use Rattle.diagnosis.specs.Rows.{house_of}
 use Rattle.diagnosis.specs.House.{row_share, InHouse}
 use Rattle.diagnosis.specs.Answers.{score_at}
 use Rattle.site.specs.Totals.{total_added, total_taken, some_above}
-use Rattle.site.specs.Changes.{State, rows_of, checking, answered, started, starting, after_starting, row_taken, add_told, with_wall, adding, after_adding, delete_told, without_wall, deleting, after_deleting, addition}
+use Rattle.site.specs.Changes.{State, rows_of, checking, answered, started, starting, after_starting, row_taken, add_told, with_wall, adding, after_adding, delete_told, without_wall, deleting, after_deleting, addition, left}
 use Rattle.site.specs.Runs.{Change, add, delete, EightNumbers, answer_of, after, Own, OneMoves, AllEightNumbers, after_run}
 use Rattle.site.proofs.AcceptedChanges.{accepted_left, refused_left, answered_scored, answered_number, answered_refused, add_ready, delete_ready}
 use Rattle.diagnosis.proofs.Comparing as comparing
@@ -42,6 +42,19 @@ pub answer_fresh : (s : State) → Own s → (change : Change) → EightNumbers 
     → answer_of s change ≡ scoring (rows_of (after s change))
 answer_fresh s own (add wall) eight scored = own_runs.answer_fresh s own (add wall) eight (passed (add_told s wall) (with_wall s wall) scored)
 answer_fresh s own (delete row) eight scored = own_runs.answer_fresh s own (delete row) eight (passed (delete_told s row) (without_wall s row) scored)
+
+-- From any record the answer is the record of the totals that are left.
+of_totals : (tells : Told) (before after : State) → (answered tells after).scored ≡ true
+    → answered tells after ≡ told_scored (record_with (rows_of (left tells before after)) (number_at (left tells before after).totals.held))
+unfolding answered
+of_totals tells before after scored =
+    let e = passed tells after scored in
+    rw (accepted_left tells before after e) (ap (λ (b : Bool). cond b (told_scored (record_with (rows_of after) (number_at after.totals.held))) (told_refused tells.number tells.row tells.column)) e)
+
+pub scores_of_totals : (s : State) (change : Change) → (answer_of s change).scored ≡ true
+    → answer_of s change ≡ told_scored (record_with (rows_of (after s change)) (number_at (after s change).totals.held))
+scores_of_totals s (add wall) scored = of_totals (add_told s wall) s (with_wall s wall) scored
+scores_of_totals s (delete row) scored = of_totals (delete_told s row) s (without_wall s row) scored
 
 pub refused_after : (s : State) (change : Change) → (answer_of s change).scored ≡ false → after s change ≡ s
 refused_after s (add wall) refused = refused_left (add_told s wall) s (with_wall s wall) (failed (add_told s wall) (with_wall s wall) refused)

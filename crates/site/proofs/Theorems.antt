@@ -9,7 +9,7 @@ use Rattle.answer.specs.Houses.{p1, two_storeys}
 use Rattle.survey.specs.Table.{cell, is_wall, wall_rows, storeys}
 use Rattle.diagnosis.specs.Rows.{house_of}
 use Rattle.diagnosis.specs.House.{row_share, InHouse}
-use Rattle.diagnosis.specs.Answers.{told_refused, scoring, score_at, Scoring, ToldScoring, told_scoring}
+use Rattle.diagnosis.specs.Answers.{told_refused, scoring, score_at, Scoring, ToldScoring, told_scoring, told_scored, record_with, number_at}
 use Rattle.site.specs.Rows.{row_due}
 use Rattle.site.specs.Changes.{State, on, rows_of, started, starting, after_starting, row_taken, adding, after_adding, deleting, after_deleting, with_wall, without_wall, empty_row}
 use Rattle.site.specs.Runs.{Change, add, delete, EightNumbers, AllEightNumbers, answer_of, after, after_run, Own, Alike, OneMoves}
@@ -128,6 +128,11 @@ pub taken_total : (s : State) (row : ℕ) → length s.totals.held ≡ 6 → (de
     (λ before after. before ≡ after + row_share (house_of rows) rows (row - 1))
 taken_total s row six scored = answers.taken_total s row six scored
 
+-- "From any other record, totals so moved and the scores of those totals are what is answered."
+pub scores_of_totals : (s : State) (change : Change) → (answer_of s change).scored ≡ true
+    → answer_of s change ≡ told_scored (record_with (rows_of (after s change)) (number_at (after s change).totals.held))
+scores_of_totals s change scored = answers.scores_of_totals s change scored
+
 -- "rows beyond them aren't read": states that differ in those alone are answered alike, and differ in those alone after any run of changes;
 pub run_unread : (s t : State) → Alike s t → (changes : List Change) → AllEightNumbers changes → (change : Change) → EightNumbers change
     → (answer_of (after_run s changes) change ≡ answer_of (after_run t changes) change) × Alike (after_run s changes) (after_run t changes)
@@ -214,6 +219,11 @@ p1_refused = (
   refused_changes_nothing p1_site (delete 4) examples.end_refused,
   refused_start_changes_nothing (p1_with own_totals 0) examples.start_refused,
 )
+
+-- with the wall, whatever its totals were, the scores are those of the totals that are left;
+pub p1_scores_of_totals : adding p1_site (middle_wall 1)
+    ≡ told_scored (record_with (rows_of (after_adding p1_site (middle_wall 1))) (number_at (after_adding p1_site (middle_wall 1)).totals.held))
+p1_scores_of_totals = scores_of_totals p1_site (add (middle_wall 1)) examples.wall_scored
 
 -- it is never refused a wall with 12, nor with 5, having six; each refusal of an addition, but for 5, of which no example is worked here;
 pub p1_never : (wall : List ℕ) → length wall ≡ 8 → ((adding p1_site wall).number ≡ no_such_wall → ⊥) × ((adding p1_site wall).number ≡ too_many_walls → ⊥)
