@@ -1,4 +1,4 @@
-/* A surveyor's afternoon: `site FILE` scores a sheet's house on site, and then again after each wall that is deleted or
+/* A surveyor's visit: `site FILE` scores a sheet's house on site, and then again after each wall that is deleted or
  * added. The changes stand on standard input, a line each: a wall's eight numbers to add it, or the number of a row to
  * delete the wall there.
  *
@@ -9,6 +9,7 @@
  * A change that is refused is said, and leaves the house as it was. Exit status: 0 all lines are read, 1 the sheet is
  * refused, 2 the file or a line can't be read, 3 the scores can't be printed.
  */
+#include <ctype.h>
 #include <errno.h>
 #include <inttypes.h>
 #include <stdio.h>
@@ -57,11 +58,14 @@ static size_t numbers_of(const char *line, uint32_t numbers[GIRDERBASIL_ROW])
         char *end;
         unsigned long number;
 
+        line += strspn(line, " \t\r\n");
+        if (*line == '\0')
+            return count;
+        if (!isdigit((unsigned char)*line) || count == GIRDERBASIL_ROW)
+            return 0;
         errno = 0;
         number = strtoul(line, &end, 10);
-        if (end == line)
-            return line[strspn(line, " \t\r\n")] == '\0' ? count : 0;
-        if (errno != 0 || number > UINT32_MAX || count == GIRDERBASIL_ROW)
+        if (errno != 0 || number > UINT32_MAX)
             return 0;
         numbers[count++] = (uint32_t)number;
         line = end;
@@ -89,7 +93,10 @@ static int change_by_lines(void)
     uint32_t numbers[GIRDERBASIL_ROW];
 
     while (fgets(line, sizeof line, stdin) != NULL) {
-        switch (numbers_of(line, numbers)) {
+        /* Of a longer line only a part was read, which says something else; the last line may end without a newline. */
+        int whole = strchr(line, '\n') != NULL || feof(stdin);
+
+        switch (whole ? numbers_of(line, numbers) : 0) {
         case GIRDERBASIL_ROW:
             say(girderbasil_add_wall(&totals, table, table_length, numbers));
             break;

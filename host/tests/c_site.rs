@@ -1,4 +1,4 @@
-//! The C example of a surveyor's afternoon: it compiles without a warning, and says what each change does, as document 02's
+//! The C example of a surveyor's visit: it compiles without a warning, and says what each change does, as document 02's
 //! request 7 has it.
 
 mod common;
@@ -35,8 +35,8 @@ fn said(program: &Path, file: &Path, changes: &str) -> String {
 }
 
 #[test]
-fn an_afternoon_on_p1() {
-    let program = compiled(&common::folder("afternoon"));
+fn a_visit_on_p1() {
+    let program = compiled(&common::folder("visit"));
     let changes = "4 1 1 2 20 2000 1 1\n6\n4 1 2 2 0 3001 0 3\n";
     let expected = "13 rows, verdict 4, storey 1 X 0.68 (held 13200000), storey 1 Y 0.83 (held 16000000)\n\
                     12 rows, verdict 4, storey 1 X 0.62 (held 12000000), storey 1 Y 0.83 (held 16000000)\n\
@@ -47,7 +47,7 @@ fn an_afternoon_on_p1() {
 
 /// Last the wall at end b of Y goes, which leaves that end in band A and end a in D, so that the layout factor is 60.
 #[test]
-fn refused_changes_are_said_and_the_afternoon_goes_on() {
+fn refused_changes_are_said_and_the_visit_goes_on() {
     let program = compiled(&common::folder("refused-changes"));
     let changes = "4\n11\n13\n 4 1  0 2 20 2000 1 1\n4 0 1 2 20 2000 1 1\r\n\
                    4 2 1 2 20 2000 1 1\n5 1 1 2 20 2000 1 1\n4 1 1 2 20 2000 1 4\n4294967295\n10\n";

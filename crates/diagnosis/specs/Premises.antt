@@ -1,5 +1,5 @@
--- What the code's structs always hold: an accepted table with its house, and what is worked out for a house. No promise to callers and no theorem is
--- stated with these.
+-- What the code's structs always hold: an accepted table with its house, and what is worked out for a house. Callers meet one of these records,
+-- `HouseOf`, which every `AcceptedTable` keeps; no theorem and no other promise to them is stated with these.
 use Rattle.std.specs.Prelude.{◌≡◌, cond, List, [], ◌∷◌, ℕ, ◌+◌, ◌*◌, ◌/◌, ◌%◌, ◌<◌, ◌≤◌, length, get_or, ltb}
 use Rattle.survey.specs.Table.{storeys}
 use Rattle.survey.specs.Judgement.{judging}

@@ -5,8 +5,9 @@
 // Report.antt and Program.antt, in that order. A table is judged once, by `survey`, before any number of
 // it is used: accepted has it as an `AcceptedTable`, which fills `method`'s structs from its rows. Held sums
 // what a storey's walls hold, and assessment works out a house, storey by storey and direction by
-// direction, once for record and report alike. Scores, reports and program are what callers call. The
-// comparison of two houses is stated in specs/Comparison.antt. The theorems are in proofs/Theorems.antt.
+// direction, once for record and report alike. Scores, reports and program are what callers call, and
+// `AcceptedTable` is for `site`. The comparison of two houses is stated in specs/Comparison.antt. The
+// theorems are in proofs/Theorems.antt.
 #![tactic(auto)]
 
 mod accepted;

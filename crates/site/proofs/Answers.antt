@@ -131,6 +131,15 @@ module _ (s : State) (passing : (starting s).scored ≡ true) (wall : List ℕ) 
         (accepted A (checked s check).accepted).few,
       )
 
+-- From a record with its own sums every wall in its ranges can be added, below the limit where a row is left.
+pub every_wall_added : (s : State) → Own s → (wall : List ℕ) → length wall ≡ 8 → 8 ≤ new_wall_column (storeys (rows_of s)) wall
+    → wall_rows (rows_of s) < most_walls → 8 * (s.totals.rows + 1) ≤ length s.table → (adding s wall).scored ≡ true
+every_wall_added s own wall eight ranged few room =
+    let passing = answered_scored (checking s) (started s) ∙ checking_accepts s (record { fits = own.fits; accepted = own.rows_accepted }) in
+    let left : length (rows_of s) + 8 ≤ length s.table = omega (arith, room, in_use_long s own.fits) in
+    wall_added s passing wall ranged few room
+    (own_runs.add_within s wall (record { eight = eight; fits = own.fits; rows_accepted = own.rows_accepted; ranged = ranged; few = few; room = left }) own)
+
 -- After a deletion that is accepted the rows in use pass, there are fewer walls than the limit, and a row is left.
 module _ (s : State) (row : ℕ) (scored : (deleting s row).scored ≡ true) where
   delete_accepts : accepts (delete_told s row) ≡ true
@@ -178,12 +187,7 @@ module _ (s : State) (row : ℕ) (scored : (deleting s row).scored ≡ true) whe
   pub wall_fits_again : Own s → (wall : List ℕ) → length wall ≡ 8 → 8 ≤ new_wall_column (storeys (rows_of (after_deleting s row))) wall
       → (adding (after_deleting s row) wall).scored ≡ true
   wall_fits_again own wall eight =
-      rw left_over (λ ranged.
-      let t = without_wall s row in
-      let next = own_runs.own_left s own row f in
-      let room : length (rows_of t) + 8 ≤ length t.table = omega (arith, table_fits, in_use_long t next.fits) in
-      wall_added t still_pass wall ranged fewer table_fits
-      (own_runs.add_within t wall (record { eight = eight; fits = next.fits; rows_accepted = next.rows_accepted; ranged = ranged; few = fewer; room = room }) next))
+      rw left_over (λ ranged. every_wall_added (without_wall s row) (own_runs.own_left s own row f) wall eight ranged fewer table_fits)
 
 module _ (s : State) (wall : List ℕ) (eight : length wall ≡ 8) (scored : (adding s wall).scored ≡ true) where
   e : accepts (add_told s wall) ≡ true

@@ -1,6 +1,6 @@
 -- The definitions worked through on P1, by computation, and uses of the theorems. Assumes nothing.
 use Rattle.diagnosis.specs.Rows.{house_of}
-use Rattle.std.proofs.Common.{◌≡◌, refl, sym, ap, ◌∙◌, true, false, ◌+◌, subst, List, [], ◌∷◌, ◌++◌, arith, get_or, ◌<◌, ◌≤◌, drop}
+use Rattle.std.proofs.Common.{◌≡◌, refl, sym, ap, ◌∙◌, true, false, ◌+◌, subst, ℕ, List, [], ◌∷◌, ◌++◌, arith, get_or, ◌<◌, ◌≤◌, drop}
 use Rattle.answer.specs.Told.{Told, accepts, counted, refusal}
 use Rattle.answer.specs.First.{first}
 use Rattle.answer.specs.Lists.{over, joined}
@@ -19,12 +19,13 @@ use Rattle.diagnosis.proofs.Examples.{p1_walls}
 use Rattle.diagnosis.proofs.ScoreLists.{one_or_two}
 use Rattle.site.specs.Runs.{add, delete, answer_of, after, after_run, Own}
 use Rattle.site.proofs.AcceptedChanges.{accepted_left, answered_scored, answered_refused}
-use Rattle.site.proofs.OwnRuns.{after_own, wall_deleted}
+use Rattle.site.proofs.OwnRuns.{started_own, after_own, wall_deleted}
+use Rattle.site.proofs.Answers.{every_wall_added, added_and_deleted}
 use Rattle.survey.proofs.Acceptance.{accepted_count}
 use Rattle.site.specs.Rows.{with_row, without_row, after_last, row_due}
 use Rattle.site.specs.Totals.{total_added, total_taken, some_above}
-use Rattle.site.specs.Changes.{on, rows_of, checking, started, starting, left, row_taken, adding, deleting, addition, add_told, with_wall, deletion, delete_told, without_wall, empty_row, State, after_deleting}
-use Rattle.site.specs.Worked.{behind, p1_with, own_totals, p1_site, middle_wall, p1_wider, p1_without_window, worked_checks, expected_checks, worked_additions, expected_additions, worked_deletions, expected_deletions, worked_run, site_wider, site_after, nines, over_the_most}
+use Rattle.site.specs.Changes.{on, rows_of, checking, started, starting, left, row_taken, adding, deleting, addition, add_told, with_wall, deletion, delete_told, without_wall, empty_row, State, after_adding, after_deleting}
+use Rattle.site.specs.Worked.{behind, p1_with, own_totals, p1_site, middle_wall, p1_wider, p1_without_window, worked_checks, expected_checks, worked_additions, expected_additions, worked_deletions, expected_deletions, worked_run, site_wider, site_after, nines, over_the_most, two_on_site}
 
 -- No row is refused as a table of no length.
 none_judged : judging [] ≡ refusal 1 0 0
@@ -232,3 +233,38 @@ middle_share = refl
 pub window_share : row_share (house_of p1) p1 5 ≡ 1_200_000
 unfolding additions_told
 window_share = refl
+
+-- A house of two storeys on site, of any weight class and so on with which it is accepted: it has its own sums after a start, and can be given a wall, in
+-- row 11, which can be deleted again and leaves the house's own rows.
+module _ (weight zone ground_class survey_day marked : ℕ) (judged : judging (two_storeys weight zone ground_class survey_day marked) ≡ counted 15) where
+  abbrev two : List ℕ
+  two = two_storeys weight zone ground_class survey_day marked
+
+  two_checked : accepts (checking (on (two ++ behind) (record { held = nines; rows = 15 }))) ≡ true
+  unfolding checking
+  two_checked = ap accepts judged
+
+  pub two_own : Own (two_on_site two)
+  two_own = started_own (on (two ++ behind) (record { held = nines; rows = 15 })) two_checked
+
+  row_eleven_too : row_taken two (middle_wall 1) + 1 ≡ 11
+  unfolding rows_due_lem
+  row_eleven_too = refl
+
+  six_walls_too : wall_rows two ≡ 6
+  unfolding wall_rows first
+  six_walls_too = refl
+
+  middle_ranged_too : 8 ≤ new_wall_column 2 (middle_wall 1)
+  unfolding new_wall_column leftmost outside first
+  middle_ranged_too = omega arith
+
+  pub wall_and_back :
+      ((deleting (after_adding (two_on_site two) (middle_wall 1)) 11).scored ≡ true)
+      × (rows_of (after_deleting (after_adding (two_on_site two) (middle_wall 1)) 11) ≡ two)
+  unfolding started
+  wall_and_back =
+      let s = two_on_site two in
+      let scored = every_wall_added s two_own (middle_wall 1) refl middle_ranged_too (omega (arith, six_walls_too)) (omega arith) in
+      let back = rw row_eleven_too at (added_and_deleted s (middle_wall 1) refl scored two_own.six) in
+      (back.0, back.1)

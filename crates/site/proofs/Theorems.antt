@@ -1,19 +1,22 @@
 -- The theorems about changes on site, with the examples worked from the definitions in them. Each is proved in the file that it cites. Assumes nothing.
-use Rattle.site.specs.Totals.{some_above, total_added}
-use Rattle.diagnosis.specs.Comparison.{SameOrWorse, BandKept}
-use Rattle.survey.specs.Judgement.{new_wall_column}
 use Rattle.std.proofs.Common.{◌≡◌, refl, ap, ◌∙◌, arith, true, false, List, [], ◌∷◌, ◌++◌, ℕ, ◌+◌, ◌-◌, ◌*◌, ◌<◌, ◌≤◌, length, drop, get_or}
 use Rattle.answer.specs.Told.{too_many_walls, lent_space_short, no_such_wall, out_of_range}
 use Rattle.answer.specs.Length.{most_walls}
 use Rattle.answer.specs.Houses.{p1, two_storeys}
 use Rattle.survey.specs.Table.{cell, is_wall, wall_rows, storeys}
+use Rattle.survey.specs.Judgement.{new_wall_column}
 use Rattle.diagnosis.specs.Rows.{house_of}
 use Rattle.diagnosis.specs.House.{row_share, InHouse}
 use Rattle.diagnosis.specs.Answers.{told_refused, scoring, score_at, Scoring, ToldScoring, told_scoring, told_scored, record_with, number_at}
+use Rattle.diagnosis.specs.Comparison.{SameOrWorse, BandKept}
+use Rattle.diagnosis.specs.Worked.{under_ten_day, ten_day, sound, all_worse}
+use Rattle.diagnosis.proofs.Examples.{two_judged}
+use Rattle.diagnosis.proofs.Theorems.{worsened}
 use Rattle.site.specs.Rows.{row_due}
+use Rattle.site.specs.Totals.{some_above, total_added}
 use Rattle.site.specs.Changes.{State, on, rows_of, started, starting, after_starting, row_taken, adding, after_adding, deleting, after_deleting, with_wall, without_wall, empty_row}
 use Rattle.site.specs.Runs.{Change, add, delete, EightNumbers, AllEightNumbers, answer_of, after, after_run, Own, Alike, OneMoves}
-use Rattle.site.specs.Worked.{behind, p1_wider, p1_with, own_totals, p1_site, middle_wall, p1_without_window, worked_checks, expected_checks, worked_additions, expected_additions, worked_deletions, expected_deletions, worked_run, site_wider, site_after, nines, over_the_most}
+use Rattle.site.specs.Worked.{behind, p1_wider, p1_with, own_totals, p1_site, middle_wall, p1_without_window, worked_checks, expected_checks, worked_additions, expected_additions, worked_deletions, expected_deletions, worked_run, site_wider, site_after, nines, over_the_most, two_on_site}
 use Rattle.site.proofs.OwnRuns as own_runs
 use Rattle.site.proofs.Answers as answers
 use Rattle.site.proofs.Unread as unread
@@ -60,11 +63,16 @@ refused_changes_nothing s change refused = answers.refused_after s change refuse
 pub refused_start_changes_nothing : (s : State) → (starting s).scored ≡ false → after_starting s ≡ s
 refused_start_changes_nothing s refused = answers.refused_start s refused
 
--- Refusals from a record with its own sums. An addition is never refused with 12;
+-- Refusals from a record with its own sums. An addition is never refused with 12,
 pub addition_never_12 : (s : State) → Own s → (wall : List ℕ) → length wall ≡ 8 → (adding s wall).number ≡ no_such_wall → ⊥
 addition_never_12 s own wall eight e = answers.addition_never_12 s own wall eight e
 
--- a deletion's 12 names the row that was asked for, and every wall can be deleted;
+-- and every wall in its ranges can be added, below the limit where a row is left;
+pub every_wall_added : (s : State) → Own s → (wall : List ℕ) → length wall ≡ 8 → 8 ≤ new_wall_column (storeys (rows_of s)) wall
+    → wall_rows (rows_of s) < most_walls → 8 * (s.totals.rows + 1) ≤ length s.table → (adding s wall).scored ≡ true
+every_wall_added s own wall eight ranged few room = answers.every_wall_added s own wall eight ranged few room
+
+-- a deletion's 12 names the row that was asked for, and every wall can be deleted.
 pub twelve_names_the_row : (s : State) → Own s → (row : ℕ) → (deleting s row).number ≡ no_such_wall → deleting s row ≡ told_refused no_such_wall row 0
 twelve_names_the_row s own row e = answers.twelve_names_the_row s own row e
 
@@ -225,12 +233,15 @@ pub p1_scores_of_totals : adding p1_site (middle_wall 1)
     ≡ told_scored (record_with (rows_of (after_adding p1_site (middle_wall 1))) (number_at (after_adding p1_site (middle_wall 1)).totals.held))
 p1_scores_of_totals = scores_of_totals p1_site (add (middle_wall 1)) examples.wall_scored
 
--- it is never refused a wall with 12, nor with 5, having six; each refusal of an addition, but for 5, of which no example is worked here;
+-- it is never refused a wall with 12, nor with 5, having six, and can be given the wall; each refusal of an addition, but for 5;
 pub p1_never : (wall : List ℕ) → length wall ≡ 8 → ((adding p1_site wall).number ≡ no_such_wall → ⊥) × ((adding p1_site wall).number ≡ too_many_walls → ⊥)
 p1_never wall eight = (
   addition_never_12 p1_site p1_own wall eight,
   λ five. omega (arith, five_at_the_limit p1_site examples.own_scored wall five, examples.six_walls),
 )
+
+pub p1_wall : (adding p1_site (middle_wall 1)).scored ≡ true
+p1_wall = every_wall_added p1_site p1_own (middle_wall 1) refl examples.middle_ranged (omega (arith, examples.six_walls)) (omega arith)
 
 pub p1_additions :
     (adding p1_site (middle_wall 0) ≡ told_refused 4 5 2)
@@ -295,11 +306,23 @@ pub p1_behind :
     × (drop 96 (after_deleting p1_site 6).table ≡ behind)
 p1_behind = (behind_added p1_site (middle_wall 1) refl examples.wall_scored, behind_deleted p1_site 6 p1_window)
 
--- And of P1 and itself, one on site from the rows that the other has after a wall is added and deleted again, demand 3 says what it says.
-pub p1_compared : (a b : Scoring) → told_scoring a ≡ answer_of p1_site (delete 6) → told_scoring b ≡ answer_of p1_site (delete 6)
-    → (told_scoring a).scored ≡ true → (told_scoring b).scored ≡ true → SameOrWorse (rows_of (after p1_site (delete 6))) (rows_of (after p1_site (delete 6)))
-    → (storey direction : ℕ) → InHouse (rows_of (after p1_site (delete 6))) storey direction
-    → get_or (told_scoring b).result.scores (score_at storey direction) 0 ≤ get_or (told_scoring a).result.scores (score_at storey direction) 0
+-- Of the two houses of two storeys that demand 3 compares, the second worse in all five, each on site with a wall more and then without it again, what is
+-- answered last is no better for the second.
+pub worse_on_site : (a b : Scoring)
+    → told_scoring a ≡ answer_of (after_run (two_on_site sound) (add (middle_wall 1) ∷ [])) (delete 11)
+    → told_scoring b ≡ answer_of (after_run (two_on_site all_worse) (add (middle_wall 1) ∷ [])) (delete 11)
+    → (get_or (told_scoring b).result.scores (score_at 1 1) 0 ≤ get_or (told_scoring a).result.scores (score_at 1 1) 0)
+    × ((told_scoring a).result.verdict ≤ (told_scoring b).result.verdict)
 unfolding after_run
-p1_compared a b ea eb sa sb worse storey direction here =
-    (comparison_on_site p1_site p1_site p1_own p1_own [] [] tt tt (delete 6) (delete 6) tt tt a b ea eb sa sb worse).0 storey direction here refl
+worse_on_site a b told_a told_b =
+    let back = examples.wall_and_back 1 90 1 under_ten_day 2048 two_judged.0 in
+    let back' = examples.wall_and_back 2 100 2 ten_day 2056 two_judged.6 in
+    let no_better = comparison_on_site (two_on_site sound) (two_on_site all_worse)
+    (examples.two_own 1 90 1 under_ten_day 2048 two_judged.0) (examples.two_own 2 100 2 ten_day 2056 two_judged.6)
+    (add (middle_wall 1) ∷ []) (add (middle_wall 1) ∷ []) (refl, tt) (refl, tt) (delete 11) (delete 11) tt tt a b told_a told_b
+    (ap (λ (t : ToldScoring). t.scored) told_a ∙ back.0) (ap (λ (t : ToldScoring). t.scored) told_b ∙ back'.0)
+    (rw (back.1, back'.1) worsened.5.worse) in (
+      no_better.0 1 1 (rw back.1 (record { some_storey = omega arith; last_storey = omega arith; some_direction = omega arith; last_direction = omega arith }))
+          (rw (back.1, back'.1) (worsened.5.kept 1 1 (record { some_storey = omega arith; last_storey = omega arith; some_direction = omega arith; last_direction = omega arith }))),
+      no_better.1 (rw (back.1, back'.1) worsened.5.kept),
+    )

@@ -1,5 +1,5 @@
--- The definitions that the promises and theorems about changes on site cite: rows put in and taken out, totals, the changes and their answers, and what is
--- so of an afternoon's changes. `Internal` is for the code alone.
+-- The definitions that the promises and theorems about changes on site cite: rows put in and taken out, totals, the changes and their answers, and runs
+-- of changes. `Internal` is for the code alone.
 pub mod Rows
 pub mod Totals
 pub mod Changes

@@ -1,5 +1,5 @@
 -- The totals: "one held strength for each storey and direction" (document 02, request 7). A house has two for each storey, in the order of its scores;
--- those of storeys that it lacks are neither looked at nor changed.
+-- those of storeys that it lacks are neither looked at nor changed by an addition or a deletion.
 use Rattle.std.specs.Prelude.{ℕ, ◌+◌, ◌-◌, ◌*◌, Bool, List, take, set, ltb}
 use Rattle.std.specs.List.{list_any}
 use Rattle.survey.specs.Table.{cell}

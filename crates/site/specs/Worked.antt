@@ -2,7 +2,7 @@
 use Rattle.std.specs.Prelude.{List, [], ◌∷◌, ◌++◌, ℕ, take, drop, map, set}
 use Rattle.answer.specs.Told.{Told, counted, refusal}
 use Rattle.answer.specs.Houses.{p1}
-use Rattle.site.specs.Changes.{State, on, checking, add_told, delete_told, empty_row}
+use Rattle.site.specs.Changes.{State, on, checking, started, add_told, delete_told, empty_row}
 use Rattle.site.specs.Runs.{Change, add, delete}
 
 -- Two rows of fives, which no row in use is.
@@ -104,3 +104,7 @@ site_after =
     ∷ 8 ∷ 19800401 ∷ 19801001 ∷ 20120401 ∷ 0 ∷ 0 ∷ 0 ∷ 0
     ∷ []) ++ empty_row ++ drop 8 behind)
     (record { held = 12_000_000 ∷ 16_000_000 ∷ 0 ∷ 0 ∷ 0 ∷ 0 ∷ []; rows = 12 })
+
+-- A house of two storeys, of fifteen rows, on site after a start from totals that are no sums.
+abbrev pub two_on_site : List ℕ → State
+two_on_site table = started (on (table ++ behind) (record { held = nines; rows = 15 }))

@@ -3,8 +3,8 @@
 // Uses `answer`, `survey`, `method` and `diagnosis`. Document 02, request 7; the definitions stand in
 // specs/Rows.antt, Totals.antt and Changes.antt, in that order. The state is the lent table and the caller's
 // record, `Totals`. Moves moves rows in the lent table, plans has the tests of each change, and changes makes one,
-// all by value but for the lent table. Records are the three functions that callers call: each takes the
-// caller's record apart, has the change made, and stores the new record where it was accepted. The theorems
+// all by value but for the lent table. Records are the three functions that callers call: each has the
+// change made from a copy of the caller's record, and stores the new record where it was accepted. The theorems
 // are in proofs/Theorems.antt.
 #![tactic(auto)]
 

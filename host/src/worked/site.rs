@@ -110,7 +110,7 @@ impl Script {
 
 /// All of them.
 pub fn scripts() -> Vec<Script> {
-    let mut scripts = vec![afternoon(), without_a_start(), short_of_room()];
+    let mut scripts = vec![start_add_delete(), without_a_start(), short_of_room()];
     scripts.extend(at_the_most());
     scripts.push(refused_places());
     scripts.extend(wrong_counts());
@@ -118,48 +118,26 @@ pub fn scripts() -> Vec<Script> {
 }
 
 /// From 7.1 to 7.2.
-fn afternoon() -> Script {
+fn start_add_delete() -> Script {
     let rows = rows_and(2);
     let added = put_in(&rows, BEFORE_PARTS, WALL);
-    let deleted = [
-        &rows[..5],
-        &rows[6..10],
-        &[WALL],
-        &rows[10..12],
-        &[[0; ROW], UNUSED],
-    ]
-    .concat();
-    let opened = [
-        &rows[..5],
-        &rows[6..10],
-        &[WALL, OPENING],
-        &rows[10..12],
-        &[UNUSED],
-    ]
-    .concat();
+    let kept = [&rows[..5], &rows[6..10], &[WALL]].concat();
+    let deleted = [&kept[..], &rows[10..12], &[[0; ROW], UNUSED]].concat();
+    let opened = [&kept[..], &[OPENING], &rows[10..12], &[UNUSED]].concat();
+    let with_wall = x_and_y(13_200_000, 16_000_000);
+    let without_window = x_and_y(12_000_000, 16_000_000);
+    let with_opening = x_and_y(12_000_000, 16_900_000);
     Script::new("7.1 and 7.2", &rows, [9; 6])
         .accepted(Change::Start, [47, 83], SUMS, 12, &rows)
-        .accepted(
-            Change::Add(WALL),
-            [68, 83],
-            x_and_y(13_200_000, 16_000_000),
-            13,
-            &added,
-        )
+        .accepted(Change::Add(WALL), [68, 83], with_wall, 13, &added)
         .accepted(
             Change::Delete(WINDOW),
             [62, 83],
-            x_and_y(12_000_000, 16_000_000),
+            without_window,
             12,
             &deleted,
         )
-        .accepted(
-            Change::Add(OPENING),
-            [62, 88],
-            x_and_y(12_000_000, 16_900_000),
-            13,
-            &opened,
-        )
+        .accepted(Change::Add(OPENING), [62, 88], with_opening, 13, &opened)
 }
 
 fn without_a_start() -> Script {

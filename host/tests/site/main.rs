@@ -6,8 +6,8 @@
 #[path = "../common/mod.rs"]
 mod common;
 
-mod afternoon;
 mod cases;
+mod visits;
 mod wrapper;
 
 use std::ptr;

@@ -7,7 +7,7 @@ use girderbasil_host::worked::site::{OPENING, SUMS, TABLE, WALL, WINDOW};
 use girderbasil_host::{MOST_WALLS, ROW};
 
 #[test]
-fn an_afternoon() {
+fn a_visit() {
     let (mut site, record) = Site::start(&TABLE).expect("P1 is accepted");
     assert_eq!(record.scores[..2], [47, 83]);
     assert_eq!(*site.totals(), SUMS);

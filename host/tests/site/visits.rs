@@ -1,4 +1,4 @@
-//! Random afternoons: calls on one table and one record, good or bad, with nothing else written between.
+//! Random visits: calls on one table and one record, good or bad, with nothing else written between.
 
 use std::fmt::Debug;
 
@@ -20,7 +20,7 @@ const GUARD: Totals = Totals {
     rows: 0xa5a5_a5a5,
 };
 
-struct Afternoon {
+struct Visit {
     lent: Vec<u32>,
     totals: Totals,
     /// Whether the rows in use are accepted and each total of the house is the sum over its walls.
@@ -28,7 +28,7 @@ struct Afternoon {
     earlier: Vec<(Change, Result<Record, Refusal>)>,
 }
 
-impl Afternoon {
+impl Visit {
     fn new(random: &mut Random) -> Self {
         let (lent, totals) = site::lent_and_totals(random);
         let diagnosis = in_use(&lent, &totals).and_then(|rows| Diagnosis::of(rows).ok());
@@ -125,10 +125,10 @@ fn random_changes_are_answered_as_by_the_model() {
     let mut random = Random::new(30);
     let mut tally = Tally::default();
     while tally.calls < CHANGES {
-        let mut afternoon = Afternoon::new(&mut random);
+        let mut visit = Visit::new(&mut random);
         for _ in 0..random.between(1, 20) {
-            let change = afternoon.next_change(&mut random);
-            afternoon.call(&mut random, change, &mut tally);
+            let change = visit.next_change(&mut random);
+            visit.call(&mut random, change, &mut tally);
         }
     }
     tally.assert_met();
@@ -143,7 +143,7 @@ fn the_place_of_a_deleted_wall_serves_again() {
         let mut lent = house::with_walls(&mut random, storeys, 300);
         let rows = (lent.len() / ROW) as u32;
         lent.extend([7; ROW]);
-        let mut afternoon = Afternoon {
+        let mut visit = Visit {
             lent,
             totals: Totals { held: [9; 6], rows },
             own: false,
@@ -151,9 +151,7 @@ fn the_place_of_a_deleted_wall_serves_again() {
         };
         let last = rows - 2;
         let index = (last as usize - 1) * ROW;
-        let wall: [u32; ROW] = afternoon.lent[index..index + ROW]
-            .try_into()
-            .expect("a row");
+        let wall: [u32; ROW] = visit.lent[index..index + ROW].try_into().expect("a row");
         for change in [
             Change::Start,
             Change::Add(wall),
@@ -161,9 +159,9 @@ fn the_place_of_a_deleted_wall_serves_again() {
             Change::Add(wall),
             Change::Add(wall),
         ] {
-            afternoon.call(&mut random, change, &mut tally);
+            visit.call(&mut random, change, &mut tally);
         }
-        let answers = afternoon.earlier.iter().map(|(_, answer)| answer.err());
+        let answers = visit.earlier.iter().map(|(_, answer)| answer.err());
         let too_many = Some(Refusal::at(Refusal::TOO_MANY_WALLS, rows as usize - 1, 1));
         assert!(answers.eq([None, too_many, None, None, too_many]));
         assert_eq!(rows, 3 * storeys + 1 + MOST_WALLS as u32 + 2);
