@@ -1,23 +1,20 @@
 -- The theorems about changes, put by what is answered. Assumes nothing.
+use Rattle.std.proofs.Common.{◌≡◌, sym, ap, subst, ◌∙◌, true, false, T, List, ℕ, ◌+◌, ◌-◌, ◌*◌, ◌<◌, ◌≤◌, arith, length, drop, eqb→eq, refl, Bool, cond}
+use Rattle.answer.specs.Told.{Told, accepts, too_many_walls, lent_space_short, no_such_wall, refusal, out_of_range}
+use Rattle.answer.specs.Length.{most_walls}
+use Rattle.survey.specs.Judgement.{new_wall_column}
+use Rattle.survey.specs.Table.{cell, is_wall, wall_rows, storeys}
+use Rattle.survey.proofs.Acceptance.{accepted}
+use Rattle.diagnosis.specs.Answers.{told_refused, scoring, score_at, told_scored, record_with, number_at}
+use Rattle.diagnosis.specs.Rows.{house_of}
+use Rattle.diagnosis.specs.House.{row_share}
+use Rattle.site.specs.Totals.{total_added, total_taken, some_above}
+use Rattle.site.specs.Changes.{State, rows_of, checking, answered, started, starting, after_starting, row_taken, add_told, with_wall, adding, after_adding, delete_told, without_wall, deleting, after_deleting, addition, left}
+use Rattle.site.specs.Runs.{Change, add, delete, EightNumbers, answer_of, after, Own, OneMoves}
 use Rattle.site.proofs.States.{Found, in_use_long, delete_stands, delete_rows, delete_table_long, delete_fits, delete_judged}
 use Rattle.site.proofs.Changing.{add_next, count_left}
 use Rattle.site.proofs.Checking.{checked, checking_accepts}
-use Rattle.diagnosis.specs.Comparison.{SameOrWorse, BandKept}
-use Rattle.survey.specs.Judgement.{new_wall_column}
-use Rattle.std.proofs.Common.{◌≡◌, sym, ap, subst, ◌∙◌, true, false, T, List, ℕ, ◌+◌, ◌-◌, ◌*◌, ◌<◌, ◌≤◌, arith, length, drop, eqb→eq, refl, get_or, Bool, cond}
-use Rattle.answer.specs.Told.{Told, accepts, too_many_walls, lent_space_short, no_such_wall, refusal, out_of_range}
-use Rattle.answer.specs.Length.{most_walls}
-use Rattle.survey.specs.Table.{cell, is_wall, wall_rows, storeys}
-use Rattle.survey.proofs.Acceptance.{accepted}
-use Rattle.diagnosis.specs.Answers.{told_refused, scoring, Scoring, ToldScoring, told_scoring, score_at, told_scored, record_with, number_at}
-use Rattle.diagnosis.specs.Rows.{house_of}
-use Rattle.diagnosis.specs.House.{row_share, InHouse}
-use Rattle.diagnosis.specs.Answers.{score_at}
-use Rattle.site.specs.Totals.{total_added, total_taken, some_above}
-use Rattle.site.specs.Changes.{State, rows_of, checking, answered, started, starting, after_starting, row_taken, add_told, with_wall, adding, after_adding, delete_told, without_wall, deleting, after_deleting, addition, left}
-use Rattle.site.specs.Runs.{Change, add, delete, EightNumbers, answer_of, after, Own, OneMoves, AllEightNumbers, after_run}
 use Rattle.site.proofs.AcceptedChanges.{accepted_left, refused_left, answered_scored, answered_number, answered_refused, add_ready, delete_ready}
-use Rattle.diagnosis.proofs.Comparing as comparing
 use Rattle.site.proofs.Additions as additions
 use Rattle.site.proofs.PutBack as put_back
 use Rattle.site.proofs.Unread as unread
@@ -246,22 +243,3 @@ taken_total s row six scored =
     let e = passed (delete_told s row) (without_wall s row) scored in
     let held_is = ap (λ (t : State). t.totals.held) (accepted_left (delete_told s row) s (without_wall s row) e) ∙ held_without s row in
     rw held_is (record { here = put_back.taken_here s row e six; elsewhere = put_back.taken_other s row e six })
-
--- Demand 3 on site: of the records that two changes answer, after any runs of changes from records with their own sums.
-pub comparison_on_site : (s t : State) → Own s → Own t → (changes others : List Change) → AllEightNumbers changes → AllEightNumbers others
-    → (change other : Change) → EightNumbers change → EightNumbers other
-    → (a b : Scoring) → told_scoring a ≡ answer_of (after_run s changes) change → told_scoring b ≡ answer_of (after_run t others) other
-    → (told_scoring a).scored ≡ true → (told_scoring b).scored ≡ true
-    → let A = rows_of (after (after_run s changes) change) in
-    let B = rows_of (after (after_run t others) other) in
-    SameOrWorse A B
-    → ((storey direction : ℕ) → InHouse A storey direction → BandKept A B storey direction
-    → get_or (told_scoring b).result.scores (score_at storey direction) 0 ≤ get_or (told_scoring a).result.scores (score_at storey direction) 0)
-    × (((storey direction : ℕ) → InHouse A storey direction → BandKept A B storey direction) → (told_scoring a).result.verdict ≤ (told_scoring b).result.verdict)
-comparison_on_site s t own own' changes others eight eight' change other one one' a b ea eb sa sb worse =
-    let A = rows_of (after (after_run s changes) change) in
-    let B = rows_of (after (after_run t others) other) in
-    let no_better = comparing.comparison A B worse in
-    let fa = ea ∙ answer_fresh (after_run s changes) (own_runs.after_run_own s own changes eight) change one (sym (ap (λ (x : ToldScoring). x.scored) ea) ∙ sa) in
-    let fb = eb ∙ answer_fresh (after_run t others) (own_runs.after_run_own t own' others eight') other one' (sym (ap (λ (x : ToldScoring). x.scored) eb) ∙ sb) in
-    (λ storey direction here kept. no_better.record_full a b fa fb storey direction here kept, λ kept. no_better.record_verdict a b fa fb kept)

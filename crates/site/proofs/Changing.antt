@@ -10,17 +10,17 @@ use Rattle.method.specs.declared.rows.House.{House}
 use Rattle.diagnosis.specs.declared.accepted.AcceptedTable.{AcceptedTable}
 use Rattle.diagnosis.specs.Rows.{house_of}
 use Rattle.diagnosis.specs.Premises.{HouseOf}
+use Rattle.diagnosis.specs.House.{held}
+use Rattle.diagnosis.specs.declared.scores.Record.{Record}
+use Rattle.diagnosis.specs.Answers.{told_record, six_numbers, number_at, record_of}
 use Rattle.diagnosis.proofs.AcceptedTables.{stands}
+use Rattle.diagnosis.proofs.GivenStrengths.{record_own}
 use Rattle.site.specs.declared.changes.Changed.{Changed}
 use Rattle.site.specs.Internal.{Made}
 use Rattle.site.specs.Rows.{in_use, with_row, without_row}
 use Rattle.site.specs.Totals.{total_added, total_taken, some_above}
-use Rattle.diagnosis.specs.House.{held}
-use Rattle.diagnosis.specs.declared.scores.Record.{Record}
-use Rattle.diagnosis.specs.Answers.{told_record, six_numbers, number_at, record_of}
-use Rattle.diagnosis.proofs.GivenStrengths.{record_own}
-use Rattle.site.proofs.OwnSums.{sums_own}
 use Rattle.site.specs.Changes.{State, on, rows_of, checking, started, row_taken, addition, add_told, with_wall, deletion, delete_told, without_wall, empty_row}
+use Rattle.site.proofs.OwnSums.{sums_own}
 use Rattle.site.proofs.Checking.{checked}
 use Rattle.site.proofs.PutRows.{same_house}
 use Rattle.site.proofs.Additions as additions

@@ -1,5 +1,4 @@
 -- The definitions worked through on P1, by computation, and uses of the theorems. Assumes nothing.
-use Rattle.diagnosis.specs.Rows.{house_of}
 use Rattle.std.proofs.Common.{◌≡◌, refl, sym, ap, ◌∙◌, true, false, ◌+◌, subst, ℕ, List, [], ◌∷◌, ◌++◌, arith, get_or, ◌<◌, ◌≤◌, drop}
 use Rattle.answer.specs.Told.{Told, accepts, counted, refusal}
 use Rattle.answer.specs.First.{first}
@@ -8,24 +7,24 @@ use Rattle.answer.specs.Length.{rows_in}
 use Rattle.answer.specs.Houses.{p1, two_storeys}
 use Rattle.survey.specs.Table.{wall_rows, storeys}
 use Rattle.survey.specs.Judgement.{outside, leftmost, judging, new_wall_column}
-use Rattle.survey.proofs.Examples.{p1_judged}
 use Rattle.survey.specs.Walls.{rows_from}
+use Rattle.survey.proofs.Examples.{p1_judged}
+use Rattle.survey.proofs.Acceptance.{accepted_count}
 use Rattle.method.specs.Printed.{nth}
-use Rattle.method.specs.Held.{position, foundation_used, shared_row, top_entry, entry_in, entry, interpolated, row_factor, joint_factor, solid_share, opening_share, wall_share}
-use Rattle.method.specs.Held.{held_strength}
+use Rattle.method.specs.Held.{position, foundation_used, shared_row, top_entry, entry_in, entry, interpolated, row_factor, joint_factor, solid_share, opening_share, wall_share, held_strength}
+use Rattle.diagnosis.specs.Rows.{house_of}
 use Rattle.diagnosis.specs.House.{in_direction, held, row_share}
 use Rattle.diagnosis.specs.Answers.{ToldScoring, number_at, six_numbers}
 use Rattle.diagnosis.proofs.Examples.{p1_walls}
 use Rattle.diagnosis.proofs.ScoreLists.{one_or_two}
 use Rattle.site.specs.Runs.{add, delete, answer_of, after, after_run, Own}
-use Rattle.site.proofs.AcceptedChanges.{accepted_left, answered_scored, answered_refused}
-use Rattle.site.proofs.OwnRuns.{started_own, after_own, wall_deleted}
-use Rattle.site.proofs.Answers.{every_wall_added, added_and_deleted}
-use Rattle.survey.proofs.Acceptance.{accepted_count}
 use Rattle.site.specs.Rows.{with_row, without_row, after_last, row_due}
 use Rattle.site.specs.Totals.{total_added, total_taken, some_above}
 use Rattle.site.specs.Changes.{on, rows_of, checking, started, starting, left, row_taken, adding, deleting, addition, add_told, with_wall, deletion, delete_told, without_wall, empty_row, State, after_adding, after_deleting}
 use Rattle.site.specs.Worked.{behind, p1_with, own_totals, p1_site, middle_wall, p1_wider, p1_without_window, worked_checks, expected_checks, worked_additions, expected_additions, worked_deletions, expected_deletions, worked_run, site_wider, site_after, nines, over_the_most, two_on_site}
+use Rattle.site.proofs.AcceptedChanges.{accepted_left, answered_scored, answered_refused}
+use Rattle.site.proofs.OwnRuns.{started_own, after_own, wall_deleted}
+use Rattle.site.proofs.Answers.{every_wall_added, added_and_deleted}
 
 -- No row is refused as a table of no length.
 none_judged : judging [] ≡ refusal 1 0 0

@@ -1,11 +1,10 @@
 -- A part of a table whose rows are moved, number by number. Assumes nothing.
 use Rattle.std.proofs.Common.{◌≡◌, refl, sym, ap, ◌∙◌, List, ◌++◌, ℕ, zero, suc, ◌+◌, ◌-◌, ◌*◌, ◌<◌, ◌≤◌, append_assoc, arith, length, get_or, set, take, drop, length-append, ext_get_or}
-use Rattle.std.proofs.lemmas.List.{get_or-set_same, get_or-set_other, get_or-take, get_or-drop, get_or-append_right, length-take, length-drop}
+use Rattle.std.proofs.lemmas.List.{get_or-set_same, get_or-set_other, get_or-take, get_or-drop, get_or-append_right, length-take, length-drop, take_all, take-take, drop-take, drop-drop}
+use Rattle.std.proofs.Math.Seq.{take-append-add}
 use lib.ListN.{get_or-append}
 use native.Mathlib.Decide.{dec_lt}
 use borrow.Rule.Slice.PartMut.{put_mid}
-use Rattle.std.proofs.Math.Seq.{take-append-add}
-use Rattle.std.proofs.lemmas.List.{take_all, take-take, drop-take, drop-drop}
 use Rattle.answer.specs.Lists.{over}
 use Rattle.answer.proofs.Lists.{part_put}
 use Rattle.site.specs.Rows.{in_use, with_row, without_row}

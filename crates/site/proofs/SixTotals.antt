@@ -1,9 +1,9 @@
 -- Six totals: whether one of a house's is above 60,000 kN, and one of them set. Assumes nothing.
-use Rattle.std.proofs.Common.{◌≡◌, refl, sym, ap, subst, ◌∙◌, Bool, true, false, cond, ◌||◌, T, Option, Some, None, SomeIff, List, [], ◌∷◌, ℕ, zero, suc, ◌*◌, ◌^◌, ◌<◌, ◌≤◌, arith, length, get_or, set, take, ltb, lt-ltb, le-ltb, ltb-false}
 use Rattle.std.specs.List.{list_any}
+use Rattle.std.proofs.Common.{◌≡◌, refl, sym, ap, subst, ◌∙◌, Bool, true, false, cond, ◌||◌, T, Option, Some, None, SomeIff, List, [], ◌∷◌, ℕ, zero, suc, ◌*◌, ◌^◌, ◌<◌, ◌≤◌, arith, length, get_or, set, take, ltb, lt-ltb, le-ltb, ltb-false}
 use Rattle.std.proofs.lemmas.List.{get_or-set_same, get_or-set_other, get_or-take, length-take, length-set}
-use Rattle.method.specs.Held.{most_held}
 use Rattle.survey.specs.Table.{cell}
+use Rattle.method.specs.Held.{most_held}
 use Rattle.method.specs.declared.rows.House.{House}
 use Rattle.diagnosis.specs.Premises.{HouseOf}
 use Rattle.diagnosis.specs.Answers.{score_at, number_at}

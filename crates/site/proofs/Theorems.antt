@@ -1,5 +1,5 @@
 -- The theorems about changes on site, with the examples worked from the definitions in them. Each is proved in the file that it cites. Assumes nothing.
-use Rattle.std.proofs.Common.{◌≡◌, refl, ap, ◌∙◌, arith, true, false, List, [], ◌∷◌, ◌++◌, ℕ, ◌+◌, ◌-◌, ◌*◌, ◌<◌, ◌≤◌, length, drop, get_or}
+use Rattle.std.proofs.Common.{◌≡◌, refl, sym, ap, ◌∙◌, arith, true, false, List, [], ◌∷◌, ◌++◌, ℕ, ◌+◌, ◌-◌, ◌*◌, ◌<◌, ◌≤◌, length, drop, get_or}
 use Rattle.answer.specs.Told.{too_many_walls, lent_space_short, no_such_wall, out_of_range}
 use Rattle.answer.specs.Length.{most_walls}
 use Rattle.answer.specs.Houses.{p1, two_storeys}
@@ -11,7 +11,7 @@ use Rattle.diagnosis.specs.Answers.{told_refused, scoring, score_at, Scoring, To
 use Rattle.diagnosis.specs.Comparison.{SameOrWorse, BandKept}
 use Rattle.diagnosis.specs.Worked.{under_ten_day, ten_day, sound, all_worse}
 use Rattle.diagnosis.proofs.Examples.{two_judged}
-use Rattle.diagnosis.proofs.Theorems.{worsened}
+use Rattle.diagnosis.proofs.Theorems.{comparison, worsened}
 use Rattle.site.specs.Rows.{row_due}
 use Rattle.site.specs.Totals.{some_above, total_added}
 use Rattle.site.specs.Changes.{State, on, rows_of, started, starting, after_starting, row_taken, adding, after_adding, deleting, after_deleting, with_wall, without_wall, empty_row}
@@ -53,8 +53,15 @@ pub comparison_on_site : (s t : State) → Own s → Own t → (changes others :
     → ((storey direction : ℕ) → InHouse A storey direction → BandKept A B storey direction
     → get_or (told_scoring b).result.scores (score_at storey direction) 0 ≤ get_or (told_scoring a).result.scores (score_at storey direction) 0)
     × (((storey direction : ℕ) → InHouse A storey direction → BandKept A B storey direction) → (told_scoring a).result.verdict ≤ (told_scoring b).result.verdict)
-comparison_on_site s t own own' changes others eight eight' change other one one' a b ea eb sa sb worse =
-    answers.comparison_on_site s t own own' changes others eight eight' change other one one' a b ea eb sa sb worse
+comparison_on_site s t own own' changes others eight eight' change other one one' a b told_a told_b scored_a scored_b worse =
+    let A = rows_of (after (after_run s changes) change) in
+    let B = rows_of (after (after_run t others) other) in
+    let no_better = comparison A B worse in
+    let fresh_a = told_a ∙ run_fresh s own changes eight change one (sym (ap (λ (x : ToldScoring). x.scored) told_a) ∙ scored_a) in
+    let fresh_b = told_b ∙ run_fresh t own' others eight' other one' (sym (ap (λ (x : ToldScoring). x.scored) told_b) ∙ scored_b) in (
+      λ storey direction here kept. no_better.record_full a b fresh_a fresh_b storey direction here kept,
+      λ kept. no_better.record_verdict a b fresh_a fresh_b kept,
+    )
 
 -- "A refused change or start alters neither table nor record", whatever the record.
 pub refused_changes_nothing : (s : State) (change : Change) → (answer_of s change).scored ≡ false → after s change ≡ s
