@@ -112,9 +112,9 @@ module _ (s : State) (passing : (starting s).scored ≡ true) (wall : List ℕ) 
   totals_told ranged few room above =
       told_is no_such_wall 0 0 (additions.told_totals A s.totals.held wall (length s.table) ranged few (omega (arith, A_long)) above)
 
-  pub wall_added : 8 ≤ column → wall_rows A < most_walls → 8 * (s.totals.rows + 1) ≤ length s.table
+  pub wall_accepted : 8 ≤ column → wall_rows A < most_walls → 8 * (s.totals.rows + 1) ≤ length s.table
       → some_above (storeys A) (total_added A s.totals.held wall) ≡ false → (adding s wall).scored ≡ true
-  wall_added ranged few room within =
+  wall_accepted ranged few room within =
       answered_scored (add_told s wall) (with_wall s wall) ∙ sym (ap accepts (add_next s wall check))
       ∙ ap accepts (additions.passes_told A s.totals.held wall (length s.table) (record { ranged = ranged; few = few; room = omega (arith, A_long); within = within }))
 
@@ -134,7 +134,7 @@ pub every_wall_added : (s : State) → Own s → (wall : List ℕ) → length wa
 every_wall_added s own wall eight ranged few room =
     let passing = answered_scored (checking s) (started s) ∙ checking_accepts s (record { fits = own.fits; accepted = own.rows_accepted }) in
     let left : length (rows_of s) + 8 ≤ length s.table = omega (arith, room, in_use_long s own.fits) in
-    wall_added s passing wall ranged few room
+    wall_accepted s passing wall ranged few room
     (own_runs.add_within s wall (record { eight = eight; fits = own.fits; rows_accepted = own.rows_accepted; ranged = ranged; few = few; room = left }) own)
 
 -- After a deletion that is accepted the rows in use pass, there are fewer walls than the limit, and a row is left.

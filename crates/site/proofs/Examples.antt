@@ -1,5 +1,5 @@
 -- The definitions worked through on P1, by computation, and uses of the theorems. Assumes nothing.
-use Rattle.std.proofs.Common.{◌≡◌, refl, sym, ap, ◌∙◌, true, false, ◌+◌, subst, ℕ, List, [], ◌∷◌, ◌++◌, arith, get_or, ◌<◌, ◌≤◌, drop}
+use Rattle.std.proofs.Common.{◌≡◌, refl, sym, ap, ◌∙◌, true, false, ◌+◌, subst, ℕ, List, [], ◌∷◌, ◌++◌, arith, get_or, ◌<◌, ◌≤◌, drop, length, ◌*◌}
 use Rattle.answer.specs.Told.{Told, accepts, counted, refusal}
 use Rattle.answer.specs.First.{first}
 use Rattle.answer.specs.Lists.{over, joined}
@@ -21,7 +21,7 @@ use Rattle.site.specs.Runs.{add, delete, answer_of, after, after_run, Own}
 use Rattle.site.specs.Rows.{with_row, without_row, after_last, row_due}
 use Rattle.site.specs.Totals.{total_added, total_taken, some_above}
 use Rattle.site.specs.Changes.{on, rows_of, checking, started, starting, left, row_taken, adding, deleting, addition, add_told, with_wall, deletion, delete_told, without_wall, empty_row, State, after_adding, after_deleting}
-use Rattle.site.specs.Worked.{behind, p1_with, own_totals, p1_site, middle_wall, p1_wider, p1_without_window, worked_checks, expected_checks, worked_additions, expected_additions, worked_deletions, expected_deletions, worked_run, site_wider, site_after, nines, over_the_most, two_on_site}
+use Rattle.site.specs.Worked.{behind, p1_with, own_totals, p1_site, p1_lacking, middle_wall, p1_wider, p1_without_window, worked_checks, expected_checks, worked_additions, expected_additions, worked_deletions, expected_deletions, worked_run, site_wider, site_after, nines, over_the_most, two_on_site}
 use Rattle.site.proofs.AcceptedChanges.{accepted_left, answered_scored, answered_refused}
 use Rattle.site.proofs.OwnRuns.{started_own, after_own, wall_deleted}
 use Rattle.site.proofs.Answers.{every_wall_added, added_and_deleted}
@@ -54,35 +54,46 @@ unfolding deletions_told without_wall without_row over
 window_deleted = refl
 
 -- The row that a new wall takes: of storeys 0 to 3 in P1, and in a house of two storeys, whose walls stand in rows 7 to 12, from 0.
-pub rows_due_lem :
+pub p1_rows_taken :
     row_due p1 0 ∷ row_due p1 1 ∷ row_due p1 2 ∷ []
     ≡ 4 ∷ 10 ∷ 10 ∷ []
 unfolding row_due after_last wall_rows first
-rows_due_lem = refl
+p1_rows_taken = refl
 
-pub two_rows_due :
+pub two_rows_taken :
     let two = two_storeys 1 90 1 20080331 2048 in
     row_due two 0 ∷ row_due two 1 ∷ row_due two 2 ∷ row_due two 3 ∷ []
     ≡ 7 ∷ 10 ∷ 13 ∷ 13 ∷ []
-unfolding rows_due_lem
-two_rows_due = refl
+unfolding p1_rows_taken
+two_rows_taken = refl
 
 -- P1's own totals.
 p1_held : (held p1 1 1 ≡ 9_200_000) × (held p1 1 2 ≡ 16_000_000)
 unfolding held held_strength in_direction rows_from additions_told
 p1_held = (rw p1_walls, rw p1_walls)
 
-pub p1_own : Own p1_site
-p1_own = record {
-  six = refl;
-  fits = omega arith;
-  rows_accepted = ap (λ (t : Told). t.number) p1_judged;
-  sums = λ storey direction here.
+-- So any record of its rows has its own sums by which the ground storey's two totals are these.
+own_by : (s : State) → rows_of s ≡ p1 → length s.totals.held ≡ 6 → 8 * s.totals.rows ≤ length s.table
+    → number_at s.totals.held 1 1 ≡ 9_200_000 → number_at s.totals.held 1 2 ≡ 16_000_000 → Own s
+own_by s rows six fits in_x in_y = record {
+  six = six;
+  fits = fits;
+  rows_accepted = rw rows (ap (λ (t : Told). t.number) p1_judged);
+  sums = rw rows (λ storey direction here.
       let ground : storey ≡ 1 = omega (arith, here.some_storey, here.last_storey) in
-      let one : number_at own_totals 1 1 ≡ held p1 1 1 = sym p1_held.0 in
-      let two : number_at own_totals 1 2 ≡ held p1 1 2 = sym p1_held.1 in
-      rw ground (one_or_two (λ d. number_at own_totals 1 d ≡ held p1 1 d) one two direction here.some_direction here.last_direction);
+      let one : number_at s.totals.held 1 1 ≡ held p1 1 1 = in_x ∙ sym p1_held.0 in
+      let two : number_at s.totals.held 1 2 ≡ held p1 1 2 = in_y ∙ sym p1_held.1 in
+      rw ground (one_or_two (λ d. number_at s.totals.held 1 d ≡ held p1 1 d) one two direction here.some_direction here.last_direction));
 }
+
+pub p1_own : Own p1_site
+p1_own = own_by p1_site refl refl (omega arith) refl refl
+
+pub full_own : Own (on p1 p1_site.totals)
+full_own = own_by (on p1 p1_site.totals) refl refl (omega arith) refl refl
+
+pub lacking_own : Own p1_lacking
+lacking_own = own_by p1_lacking refl refl (omega arith) refl refl
 
 -- A run of changes, one of them refused.
 after_wall : after p1_site (add (middle_wall 1)) ≡ site_wider
@@ -150,7 +161,7 @@ six_walls = refl
 
 -- The wall that is added takes row 11, from 1.
 pub row_eleven : row_taken (rows_of p1_site) (middle_wall 1) + 1 ≡ 11
-unfolding rows_due_lem
+unfolding p1_rows_taken
 row_eleven = refl
 
 -- A start and an addition from totals that are no sums (document 02's example, by its numbers).
@@ -183,9 +194,6 @@ pub full_scored : (starting (on p1 p1_site.totals)).scored ≡ true
 unfolding checking
 full_scored = passes_judged (on p1 p1_site.totals) (ap accepts p1_judged)
 
-pub full_own : Own (on p1 p1_site.totals)
-full_own = record { six = refl; fits = omega arith; rows_accepted = p1_own.rows_accepted; sums = p1_own.sums }
-
 pub six_walls_full : wall_rows (rows_of (on p1 p1_site.totals)) ≡ 6
 unfolding wall_rows first
 six_walls_full = refl
@@ -214,7 +222,7 @@ pub storey_0_out : new_wall_column (storeys (rows_of p1_site)) (middle_wall 0) <
 storey_0_out = rw column_two (omega arith)
 
 pub row_five : row_taken (rows_of p1_site) (middle_wall 0) ≡ 4
-unfolding rows_due_lem
+unfolding p1_rows_taken
 row_five = refl
 
 pub total_above : some_above 1 (total_added p1 over_the_most (middle_wall 1)) ≡ true
@@ -247,7 +255,7 @@ module _ (weight zone ground_class survey_day marked : ℕ) (judged : judging (t
   two_own = started_own (on (two ++ behind) (record { held = nines; rows = 15 })) two_checked
 
   row_eleven_too : row_taken two (middle_wall 1) + 1 ≡ 11
-  unfolding rows_due_lem
+  unfolding p1_rows_taken
   row_eleven_too = refl
 
   six_walls_too : wall_rows two ≡ 6

@@ -16,7 +16,7 @@ use Rattle.site.specs.Rows.{row_due}
 use Rattle.site.specs.Totals.{some_above, total_added}
 use Rattle.site.specs.Changes.{State, on, rows_of, started, starting, after_starting, row_taken, adding, after_adding, deleting, after_deleting, with_wall, without_wall, empty_row}
 use Rattle.site.specs.Runs.{Change, add, delete, EightNumbers, AllEightNumbers, answer_of, after, after_run, Own, Alike, OneMoves}
-use Rattle.site.specs.Worked.{behind, p1_wider, p1_with, own_totals, p1_site, middle_wall, p1_without_window, worked_checks, expected_checks, worked_additions, expected_additions, worked_deletions, expected_deletions, worked_run, site_wider, site_after, nines, over_the_most, two_on_site}
+use Rattle.site.specs.Worked.{behind, p1_wider, p1_with, own_totals, p1_site, p1_lacking, middle_wall, p1_without_window, worked_checks, expected_checks, worked_additions, expected_additions, worked_deletions, expected_deletions, worked_run, site_wider, site_after, nines, over_the_most, two_on_site}
 use Rattle.site.proofs.OwnRuns as own_runs
 use Rattle.site.proofs.Answers as answers
 use Rattle.site.proofs.Unread as unread
@@ -108,7 +108,7 @@ totals_told s passing wall ranged few room above = answers.totals_told s passing
 pub wall_accepted : (s : State) → (starting s).scored ≡ true → (wall : List ℕ) → 8 ≤ new_wall_column (storeys (rows_of s)) wall → wall_rows (rows_of s) < most_walls
     → 8 * (s.totals.rows + 1) ≤ length s.table → some_above (storeys (rows_of s)) (total_added (rows_of s) s.totals.held wall) ≡ false
     → (adding s wall).scored ≡ true
-wall_accepted s passing wall ranged few room within = answers.wall_added s passing wall ranged few room within
+wall_accepted s passing wall ranged few room within = answers.wall_accepted s passing wall ranged few room within
 
 -- "number 5 comes only at the limit",
 pub five_at_the_limit : (s : State) → (starting s).scored ≡ true → (wall : List ℕ) → (adding s wall).number ≡ too_many_walls → wall_rows (rows_of s) ≡ most_walls
@@ -198,23 +198,23 @@ pub run_worked : after_run p1_site worked_run ≡ site_after
 run_worked = examples.run_worked
 
 -- and the rows, from 0, that walls of storeys 0, 1, .. take, in P1 and in a house of two storeys, whose walls stand in rows 7 to 12.
-pub rows_due :
+pub rows_taken :
     (row_due p1 0 ∷ row_due p1 1 ∷ row_due p1 2 ∷ [] ≡ 4 ∷ 10 ∷ 10 ∷ [])
     × (let two = two_storeys 1 90 1 20080331 2048 in row_due two 0 ∷ row_due two 1 ∷ row_due two 2 ∷ row_due two 3 ∷ [] ≡ 7 ∷ 10 ∷ 13 ∷ 13 ∷ [])
-rows_due = (examples.rows_due_lem, examples.two_rows_due)
+rows_taken = (examples.p1_rows_taken, examples.two_rows_taken)
 
--- The theorems above, where their premises hold. P1 has its own sums on site,
-pub p1_own : Own p1_site
-p1_own = examples.p1_own
+-- The theorems above, where their premises hold. P1 has its own sums on site, whatever stands in the places of storeys that it lacks, and behind its rows;
+pub p1_own : Own p1_site × Own p1_lacking
+p1_own = (examples.p1_own, examples.lacking_own)
 
--- keeps them over that run, and its answers are fresh scorings;
+-- it keeps them over that run, and its answers are fresh scorings;
 pub p1_run : Own (after_run p1_site worked_run)
-p1_run = run_own p1_site p1_own worked_run (refl, (refl, (tt, tt)))
+p1_run = run_own p1_site p1_own.0 worked_run (refl, (refl, (tt, tt)))
 
 pub p1_fresh : answer_of (after_run p1_site (add (middle_wall 1) ∷ add (middle_wall 2) ∷ [])) (delete 6) ≡ scoring (rows_of site_after)
 unfolding after_run
 p1_fresh =
-    run_fresh p1_site p1_own (add (middle_wall 1) ∷ add (middle_wall 2) ∷ []) (refl, (refl, tt)) (delete 6) tt examples.window_scored
+    run_fresh p1_site p1_own.0 (add (middle_wall 1) ∷ add (middle_wall 2) ∷ []) (refl, (refl, tt)) (delete 6) tt examples.window_scored
     ∙ ap (λ (s : State). scoring (rows_of s)) run_worked
 
 -- a start fills its sums in, and leaves what a start from other rows behind leaves;
@@ -243,12 +243,12 @@ p1_scores_of_totals = scores_of_totals p1_site (add (middle_wall 1)) examples.wa
 -- it is never refused a wall with 12, nor with 5, having six, and can be given the wall; each refusal of an addition, but for 5;
 pub p1_never : (wall : List ℕ) → length wall ≡ 8 → ((adding p1_site wall).number ≡ no_such_wall → ⊥) × ((adding p1_site wall).number ≡ too_many_walls → ⊥)
 p1_never wall eight = (
-  addition_never_12 p1_site p1_own wall eight,
+  addition_never_12 p1_site p1_own.0 wall eight,
   λ five. omega (arith, five_at_the_limit p1_site examples.own_scored wall five, examples.six_walls),
 )
 
 pub p1_wall : (adding p1_site (middle_wall 1)).scored ≡ true
-p1_wall = every_wall_added p1_site p1_own (middle_wall 1) refl examples.middle_ranged (omega (arith, examples.six_walls)) (omega arith)
+p1_wall = every_wall_added p1_site p1_own.0 (middle_wall 1) refl examples.middle_ranged (omega (arith, examples.six_walls)) (omega arith)
 
 pub p1_additions :
     (adding p1_site (middle_wall 0) ≡ told_refused 4 5 2)
@@ -270,10 +270,10 @@ full_house s passing one all =
 
 -- it is told 12 of row 4, an end; its window can be deleted, and then a wall can be added where no row was left;
 pub p1_end : deleting p1_site 4 ≡ told_refused no_such_wall 4 0
-p1_end = twelve_names_the_row p1_site p1_own 4 examples.end_twelve
+p1_end = twelve_names_the_row p1_site p1_own.0 4 examples.end_twelve
 
 pub p1_window : (deleting p1_site 6).scored ≡ true
-p1_window = every_wall_deleted p1_site p1_own 6 (omega arith) refl
+p1_window = every_wall_deleted p1_site p1_own.0 6 (omega arith) refl
 
 pub p1_place : (wall : List ℕ)
     → ((adding (after_deleting p1_site 6) wall).number ≡ too_many_walls → ⊥) × ((adding (after_deleting p1_site 6) wall).number ≡ lent_space_short → ⊥)
@@ -282,7 +282,7 @@ p1_place wall = place_serves_again p1_site 6 p1_window wall
 pub p1_fits : (adding (after_deleting (on p1 p1_site.totals) 6) (middle_wall 1)).scored ≡ true
 p1_fits = wall_fits_again (on p1 p1_site.totals) examples.full_own 6 (every_wall_deleted (on p1 p1_site.totals) examples.full_own 6 (omega arith) refl) (middle_wall 1) refl examples.middle_ranged_after
 
--- the wall that it is given can be deleted again from row 11, no change in X moves the total of Y, and what stands behind is neither read nor changed.
+-- the wall that it is given can be deleted again from row 11, no change in X moves another total, and what stands behind is neither read nor changed.
 pub p1_put_back :
     ((deleting (after_adding p1_site (middle_wall 1)) 11).scored ≡ true)
     × (rows_of (after_deleting (after_adding p1_site (middle_wall 1)) 11) ≡ p1)
@@ -292,14 +292,17 @@ p1_put_back = rw examples.row_eleven at (added_and_deleted p1_site (middle_wall 
 pub p1_totals :
     let held = (after_adding p1_site (middle_wall 1)).totals.held in
     let left = (after_deleting p1_site 6).totals.held in
-    (get_or held 0 0 ≡ 13_200_000) × (get_or held 1 0 ≡ 16_000_000) × (get_or left 1 0 ≡ 16_000_000) × (9_200_000 ≡ get_or left 0 0 + 1_200_000)
+    (get_or held 0 0 ≡ 13_200_000) × (get_or held 1 0 ≡ 16_000_000) × (get_or held 5 0 ≡ 0)
+    × (9_200_000 ≡ get_or left 0 0 + 1_200_000) × (get_or left 1 0 ≡ 16_000_000) × (get_or left 5 0 ≡ 0)
 p1_totals =
     let added = added_total p1_site (middle_wall 1) refl refl examples.wall_scored in
     let taken = taken_total p1_site 6 refl p1_window in (
       added.here ∙ examples.middle_share,
       added.elsewhere 1 (λ e. omega arith),
-      taken.elsewhere 1 (λ e. omega arith),
+      added.elsewhere 5 (λ e. omega arith),
       rw examples.window_share at taken.here,
+      taken.elsewhere 1 (λ e. omega arith),
+      taken.elsewhere 5 (λ e. omega arith),
     )
 
 pub p1_unread :

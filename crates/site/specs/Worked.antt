@@ -19,6 +19,10 @@ own_totals = 9_200_000 ∷ 16_000_000 ∷ 0 ∷ 0 ∷ 0 ∷ 0 ∷ []
 abbrev pub p1_site : State
 p1_site = p1_with own_totals 12
 
+-- P1 with no whole row behind, and with numbers in the places of storeys that it lacks.
+abbrev pub p1_lacking : State
+p1_lacking = on (p1 ++ 5 ∷ 5 ∷ []) (record { held = 9_200_000 ∷ 16_000_000 ∷ 7 ∷ 7 ∷ 7 ∷ 7 ∷ []; rows = 12 })
+
 -- Totals that are no sums, and totals of which one is above the most.
 abbrev pub nines : List ℕ
 nines = 9 ∷ 9 ∷ 9 ∷ 9 ∷ 9 ∷ 9 ∷ []
