@@ -4,8 +4,8 @@
 
 pub mod site;
 
-use crate::answers::Record;
-use crate::{FIELD, LINE, MOST_WALLS, ROW};
+use girderbasil::Record;
+use girderbasil::{FIELD, LINE, MOST_WALLS, ROW};
 
 /// P1's table, with the dates row that document 02 asks for; the other worked houses of document 01 are changes of it.
 #[rustfmt::skip]

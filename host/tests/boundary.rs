@@ -15,11 +15,12 @@ use common::calls::{
     sheet_of,
 };
 use common::remainders::Scores;
-use girderbasil_host::answers::{Record, Refusal};
-use girderbasil_host::library::{self, raw};
-use girderbasil_host::model::{self, score::Diagnosis};
-use girderbasil_host::random::{Random, damage, house};
-use girderbasil_host::{LINE, MOST_REPORT_BYTES, MOST_ROWS, ROW, days, worked};
+use girderbasil::raw;
+use girderbasil::{LINE, MOST_REPORT_BYTES, MOST_ROWS, ROW};
+use girderbasil::{Record, Refusal};
+use girderbasil_tests::model::{self, score::Diagnosis};
+use girderbasil_tests::random::{Random, damage, house};
+use girderbasil_tests::{days, worked};
 
 const HOUSES: usize = 200_000;
 const DAMAGED_TABLES: usize = 300_000;
@@ -225,7 +226,7 @@ fn check_read(random: &mut Random, sheet: &[u8], tally: &mut Tally) -> Option<Ve
     let mut call = Read::new(random, sheet);
     let sheet_after = call.sheet.buffer.clone();
 
-    let answer = library::raw_read(call.sheet.slice(), call.table.slice_mut());
+    let answer = raw::read(call.sheet.slice(), call.table.slice_mut());
 
     assert_eq!(answer, call.answer());
     assert_same(&call.table.buffer, &call.table_after, "the table");
@@ -243,7 +244,7 @@ fn check_table(random: &mut Random, table: &[u32], tally: &mut Tally) {
     let call = Score::new(random, table);
     let after = call.table.buffer.clone();
 
-    let scored = library::score(call.table.slice());
+    let scored = girderbasil::score(call.table.slice());
     tally.cases += 1;
     tally.scored[number_of(&call.expected)] += 1;
     // What the library answers is checked by itself before it is compared, so that this doesn't rest on the model's record.
@@ -253,7 +254,7 @@ fn check_table(random: &mut Random, table: &[u32], tally: &mut Tally) {
         (Err(_), Ok(_)) => {}
     }
     assert_eq!(scored, call.expected);
-    assert_eq!(library::raw_score(call.table.slice()), call.answer());
+    assert_eq!(raw::score(call.table.slice()), call.answer());
     assert_same(&call.table.buffer, &after, "the table that was scored");
     check_report(random, table, tally);
 }
@@ -262,7 +263,7 @@ fn check_report(random: &mut Random, table: &[u32], tally: &mut Tally) {
     let mut call = WriteReport::new(random, table);
     let table_after = call.table.buffer.clone();
 
-    let answer = library::raw_write_report(call.table.slice(), call.report.slice_mut());
+    let answer = raw::write_report(call.table.slice(), call.report.slice_mut());
 
     assert_eq!(answer, call.answer());
     assert_same(&call.report.buffer, &call.report_after, "the report");
@@ -279,9 +280,9 @@ fn check_output(random: &mut Random, sheet: &[u8], tally: &mut Tally) {
     let call = Diagnose::new(random, sheet);
     let after = call.sheet.buffer.clone();
 
-    assert_eq!(library::raw_diagnose(call.sheet.slice()), call.answer());
-    assert_eq!(library::diagnose(call.sheet.slice()), call.printed);
-    let output = library::output(call.sheet.slice());
+    assert_eq!(raw::diagnose(call.sheet.slice()), call.answer());
+    assert_eq!(girderbasil::diagnose(call.sheet.slice()), call.printed);
+    let output = girderbasil::output(call.sheet.slice());
     assert_eq!(output.refusal(), call.expected.err());
 
     assert_same(&call.sheet.buffer, &after, "the sheet");
@@ -365,45 +366,54 @@ fn damaged_sheets_are_refused_as_by_the_model() {
 
 #[test]
 fn worked_houses_are_printed_as_the_papers_have_them() {
-    assert_eq!(library::diagnose(worked::SHEET), worked::REPORT.as_bytes());
+    assert_eq!(
+        girderbasil::diagnose(worked::SHEET),
+        worked::REPORT.as_bytes()
+    );
     let sheet = sheet_of(&worked::MANUAL_TABLE);
-    assert_eq!(library::diagnose(&sheet), worked::MANUAL_REPORT.as_bytes());
+    assert_eq!(
+        girderbasil::diagnose(&sheet),
+        worked::MANUAL_REPORT.as_bytes()
+    );
     let in_x = [90, 100]
-        .map(|zone| library::score(&worked::better_end_falls(zone)).map(|it| it.scores[0]));
+        .map(|zone| girderbasil::score(&worked::better_end_falls(zone)).map(|it| it.scores[0]));
     assert_eq!(in_x, [Ok(11), Ok(14)]);
 }
 
 #[test]
 fn worked_houses_have_their_records() {
     for (name, table, record) in worked::with_records() {
-        assert_eq!(library::score(&table), Ok(record), "{name}");
+        assert_eq!(girderbasil::score(&table), Ok(record), "{name}");
     }
 }
 
 #[test]
 fn worked_houses_in_snow() {
     let leasts = [0, 1, 2, 3].map(|snow| {
-        let record = library::score(&worked::in_snow(snow)).expect("it is accepted");
+        let record = girderbasil::score(&worked::in_snow(snow)).expect("it is accepted");
         record.scores[0].min(record.scores[1])
     });
     assert_eq!(leasts, worked::LEAST_IN_SNOW);
-    let printed = library::diagnose(&sheet_of(&worked::in_snow(3)));
+    let printed = girderbasil::diagnose(&sheet_of(&worked::in_snow(3)));
     assert_eq!(printed, worked::REPORT_IN_DEEP_SNOW.as_bytes());
-    let scores =
-        [0, 1].map(|snow| library::score(&worked::weak_joints(snow)).map(|record| record.scores));
+    let scores = [0, 1]
+        .map(|snow| girderbasil::score(&worked::weak_joints(snow)).map(|record| record.scores));
     assert_eq!(scores, worked::WEAK_JOINTS_SCORES.map(Ok));
 }
 
 #[test]
 fn p1_repaired() {
-    let printed = library::diagnose(&sheet_of(&worked::unmarked(true)));
+    let printed = girderbasil::diagnose(&sheet_of(&worked::unmarked(true)));
     assert_eq!(printed, worked::REPAIRED_REPORT.as_bytes());
 }
 
 #[test]
 fn refused_sheets_are_told_with_row_before_column() {
     for (sheet, line) in worked::refused() {
-        assert_eq!(String::from_utf8_lossy(&library::diagnose(&sheet)), line);
+        assert_eq!(
+            String::from_utf8_lossy(&girderbasil::diagnose(&sheet)),
+            line
+        );
     }
 }
 

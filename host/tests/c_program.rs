@@ -7,8 +7,9 @@ use std::path::{Path, PathBuf};
 use std::process::{Command, Output, Stdio};
 
 use common::calls;
-use girderbasil_host::random::Random;
-use girderbasil_host::{LINE, MOST_ROWS, model, worked};
+use girderbasil::{LINE, MOST_ROWS};
+use girderbasil_tests::random::Random;
+use girderbasil_tests::{model, worked};
 
 const SHEETS: usize = 80;
 

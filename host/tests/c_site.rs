@@ -8,8 +8,9 @@ use std::path::{Path, PathBuf};
 use std::process::{Command, Output, Stdio};
 
 use common::calls;
-use girderbasil_host::random::{Random, house};
-use girderbasil_host::{MOST_WALLS, worked};
+use girderbasil::MOST_WALLS;
+use girderbasil_tests::random::{Random, house};
+use girderbasil_tests::worked;
 
 const P1: &str = "examples/p1.sheet";
 

@@ -8,8 +8,9 @@ use std::path::Path;
 use std::process::Command;
 use std::sync::OnceLock;
 
-use girderbasil_host::worked::{self, REPORT, SHEET, TABLE};
-use girderbasil_host::{FIELD, LINE, MOST_WALLS, ROW, model};
+use girderbasil::{FIELD, LINE, MOST_WALLS, ROW};
+use girderbasil_tests::model;
+use girderbasil_tests::worked::{self, REPORT, SHEET, TABLE};
 
 /// The line for a sheet of a length that no sheet has.
 const NO_SHEET: &str = "       0       1       0       0       0       0       0       0\n";

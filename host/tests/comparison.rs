@@ -2,11 +2,11 @@
 //!
 //! The proof of it is over all pairs of houses; this meets it in the library as it is linked.
 
-use girderbasil_host::answers::Record;
-use girderbasil_host::model::layout::Band;
-use girderbasil_host::model::score::Diagnosis;
-use girderbasil_host::random::{Random, dates, house};
-use girderbasil_host::{days, library, worked};
+use girderbasil::Record;
+use girderbasil_tests::model::layout::Band;
+use girderbasil_tests::model::score::Diagnosis;
+use girderbasil_tests::random::{Random, dates, house};
+use girderbasil_tests::{days, worked};
 
 const PAIRS: usize = 200_000;
 
@@ -46,7 +46,7 @@ struct Scored {
 fn scored(table: &[u32]) -> Scored {
     let diagnosis = Diagnosis::of(table).expect("both houses are accepted");
     Scored {
-        record: library::score(table).expect("both houses are accepted"),
+        record: girderbasil::score(table).expect("both houses are accepted"),
         age: diagnosis.survey.dates.age(),
         before_layout: diagnosis
             .assessments()

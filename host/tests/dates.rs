@@ -1,10 +1,11 @@
 //! The dates row. Every number that may stand in it, and every day as a completion, by the library and by the model,
 //! against a calendar that counts days forward one at a time; and the cases that document 02's request 3 names.
 
-use girderbasil_host::answers::{Record, Refusal};
-use girderbasil_host::model::calendar::Day;
-use girderbasil_host::worked::{self, changed};
-use girderbasil_host::{MOST_REPORT_BYTES, MOST_ROWS, MOST_WALLS, ROW, days, library, model};
+use girderbasil::{MOST_REPORT_BYTES, MOST_ROWS, MOST_WALLS, ROW};
+use girderbasil::{Record, Refusal};
+use girderbasil_tests::model::calendar::Day;
+use girderbasil_tests::worked::{self, changed};
+use girderbasil_tests::{days, model};
 
 /// P1's dates row, counted from 1.
 const DATES_ROW: usize = 12;
@@ -14,7 +15,7 @@ const CORRIDOR_SCORES: [[u32; 6]; 2] = [[57, 100, 0, 0, 0, 0], [55, 95, 0, 0, 0,
 
 /// What the library and the model both answer for a table.
 fn scored(table: &[u32]) -> Result<Record, Refusal> {
-    let answer = library::score(table);
+    let answer = girderbasil::score(table);
     assert_eq!(answer, model::score(table), "{table:?}");
     answer
 }
@@ -30,7 +31,7 @@ fn every_number_is_a_day_where_it_is_counted(column: usize, others: [u32; 3]) {
     let mut accepted = Vec::with_capacity(days::COUNT);
     for number in days::FIRST..=days::LAST {
         table[(DATES_ROW - 1) * ROW + column - 1] = number;
-        match library::score(&table) {
+        match girderbasil::score(&table) {
             Ok(record) => {
                 let by_then = u32::from(table[(DATES_ROW - 1) * ROW + 1] <= 19_810_531);
                 assert_eq!(record.started_by_31_may_1981, by_then, "{number}");
@@ -64,7 +65,7 @@ fn every_number_as_survey_day() {
 
 /// With the corridor floor alone marked, a house's scores tell its age on a survey day.
 fn age(completion: u32, survey: u32) -> u32 {
-    let record = library::score(&worked::corridor_marked([days::FIRST, completion, survey]));
+    let record = girderbasil::score(&worked::corridor_marked([days::FIRST, completion, survey]));
     let scores = record.expect("the dates are in order").scores;
     let age = CORRIDOR_SCORES.iter().position(|it| *it == scores);
     age.expect("one of the two factors") as u32 + 1
@@ -238,7 +239,7 @@ fn no_age_may_be_given() {
 /// The report that the library and the model both write for a table.
 fn report(table: &[u32]) -> String {
     let mut report = [0; MOST_REPORT_BYTES];
-    let count = library::write_report(table, &mut report).expect("the house is accepted");
+    let count = girderbasil::write_report(table, &mut report).expect("the house is accepted");
     let written = report[..count].to_vec();
     assert_eq!(model::write_report(table, count).as_ref(), Ok(&written));
     String::from_utf8(written).expect("it is text")
@@ -295,7 +296,7 @@ fn the_record_says_whether_work_started_by_31_may_1981() {
         assert_eq!(report(&table), worked::REPORT);
     }
     // A refused table's record is all 0, though work on the house started by then.
-    let refused = library::raw_score(&changed(&[(12, 8, 1)]));
+    let refused = girderbasil::raw::score(&changed(&[(12, 8, 1)]));
     assert_eq!((refused.number, refused.started_by_31_may_1981), (4, 0));
 }
 

@@ -4,10 +4,10 @@ mod common;
 
 use std::fs;
 
-use girderbasil_host::answers::{Record, Refusal};
-use girderbasil_host::model::{self, sheet};
-use girderbasil_host::random::house;
-use girderbasil_host::{MOST_REPORT_BYTES, MOST_ROWS, ROW};
+use girderbasil::{MOST_REPORT_BYTES, MOST_ROWS, ROW};
+use girderbasil::{Record, Refusal};
+use girderbasil_tests::model::{self, sheet};
+use girderbasil_tests::random::house;
 
 /// The least houses that are run, so that an empty list does not pass.
 const LEAST: usize = 80;

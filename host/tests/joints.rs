@@ -1,9 +1,9 @@
 //! The joint column at every strength: the library's report beside the model's, in every row of the manual's joint
 //! tables; and the factors a tenth below, at and above the printed strengths, read off the library's report.
 
-use girderbasil_host::model::survey::House;
-use girderbasil_host::model::{self, held};
-use girderbasil_host::{LINE, MOST_REPORT_BYTES, library};
+use girderbasil::{LINE, MOST_REPORT_BYTES};
+use girderbasil_tests::model::survey::House;
+use girderbasil_tests::model::{self, held};
 
 /// A house with one solid wall in each storey and direction. A wall is 10 m long, so that its held strength is printed as
 /// what counts of its strength × its joint factor in hundredths.
@@ -42,7 +42,7 @@ fn light(storeys: u32, foundation: u32, snow: u32) -> House {
 
 fn report_of(table: &[u32]) -> Vec<u8> {
     let mut report = [0; MOST_REPORT_BYTES];
-    let count = library::write_report(table, &mut report).expect("the house is accepted");
+    let count = girderbasil::write_report(table, &mut report).expect("the house is accepted");
     report[..count].to_vec()
 }
 

@@ -7,9 +7,9 @@ use std::mem::offset_of;
 use std::process::Command;
 
 use common::header;
-use girderbasil_host::library::raw;
-use girderbasil_host::site::Totals;
-use girderbasil_host::{LINE, MOST_REPORT_BYTES, MOST_ROWS, MOST_WALLS, ROW};
+use girderbasil::Totals;
+use girderbasil::raw;
+use girderbasil::{LINE, MOST_REPORT_BYTES, MOST_ROWS, MOST_WALLS, ROW};
 
 /// A struct's size, and where its fields begin, as [`header::layouts`] has them.
 macro_rules! layout {

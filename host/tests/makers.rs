@@ -2,10 +2,11 @@
 
 use std::collections::BTreeMap;
 
-use girderbasil_host::model::deterioration;
-use girderbasil_host::model::score::Diagnosis;
-use girderbasil_host::random::{Random, house};
-use girderbasil_host::{ROW, days, model};
+use girderbasil::ROW;
+use girderbasil_tests::model::deterioration;
+use girderbasil_tests::model::score::Diagnosis;
+use girderbasil_tests::random::{Random, house};
+use girderbasil_tests::{days, model};
 
 const HOUSES: usize = 20_000;
 

@@ -1,15 +1,15 @@
 //! The model against the houses that the papers work through, so that it is known to say what they say.
 
-use girderbasil_host::answers::Refusal;
-use girderbasil_host::model::deterioration::{self, Fraction};
-use girderbasil_host::model::layout::Band;
-use girderbasil_host::model::score::{Diagnosis, verdict};
-use girderbasil_host::model::survey::{Ends, House, Parts, Storey, Wall, WallKind};
-use girderbasil_host::model::{self, held, required, site};
-use girderbasil_host::site::Totals;
-use girderbasil_host::worked::site::{WALL, scripts};
-use girderbasil_host::worked::{self, changed};
-use girderbasil_host::{LINE, MOST_REPORT_BYTES, MOST_ROWS, MOST_WALLS, ROW};
+use girderbasil::Refusal;
+use girderbasil::Totals;
+use girderbasil::{LINE, MOST_REPORT_BYTES, MOST_ROWS, MOST_WALLS, ROW};
+use girderbasil_tests::model::deterioration::{self, Fraction};
+use girderbasil_tests::model::layout::Band;
+use girderbasil_tests::model::score::{Diagnosis, verdict};
+use girderbasil_tests::model::survey::{Ends, House, Parts, Storey, Wall, WallKind};
+use girderbasil_tests::model::{self, held, required, site};
+use girderbasil_tests::worked::site::{WALL, scripts};
+use girderbasil_tests::worked::{self, changed};
 
 const ALL_PARTS: u32 = 8191;
 

@@ -6,8 +6,9 @@ use std::fs::File;
 use std::process::{Child, Command, Stdio};
 
 use common::calls::NUMBERS;
-use girderbasil_host::random::{Random, house};
-use girderbasil_host::{LINE, MOST_ROWS, ROW, model, worked};
+use girderbasil::{LINE, MOST_ROWS, ROW};
+use girderbasil_tests::random::{Random, house};
+use girderbasil_tests::{model, worked};
 
 const SHEETS: usize = 800;
 

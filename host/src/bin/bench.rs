@@ -3,11 +3,12 @@
 use std::hint::black_box;
 use std::time::{Duration, Instant};
 
-use girderbasil_host::library::Site;
-use girderbasil_host::model::{report, score, sheet};
-use girderbasil_host::random::{Random, house};
-use girderbasil_host::site::Totals;
-use girderbasil_host::{MOST_REPORT_BYTES, MOST_ROWS, MOST_WALLS, ROW, library, worked};
+use girderbasil::Site;
+use girderbasil::Totals;
+use girderbasil::{MOST_REPORT_BYTES, MOST_ROWS, MOST_WALLS, ROW};
+use girderbasil_tests::model::{report, score, sheet};
+use girderbasil_tests::random::{Random, house};
+use girderbasil_tests::worked;
 
 /// The two are timed in turn, this often, and the best round of each counts: what else the machine does can only
 /// make a round slower.
@@ -127,8 +128,9 @@ fn time_report(houses: &[House]) -> Times {
     best_of_rounds(
         houses,
         |house| {
-            let rows = library::read(black_box(&house.sheet), &mut table).expect("it is accepted");
-            let written = library::write_report(&table[..rows * ROW], &mut bytes);
+            let rows =
+                girderbasil::read(black_box(&house.sheet), &mut table).expect("it is accepted");
+            let written = girderbasil::write_report(&table[..rows * ROW], &mut bytes);
             black_box(&bytes[..written.expect("it is accepted")]);
         },
         |house| {
@@ -145,7 +147,7 @@ fn time_record(houses: &[House]) -> Times {
     best_of_rounds(
         houses,
         |house| {
-            black_box(library::score(black_box(&house.table)).expect("it is accepted"));
+            black_box(girderbasil::score(black_box(&house.table)).expect("it is accepted"));
         },
         |house| {
             black_box(score::score(black_box(&house.table)).expect("it is accepted"));
@@ -257,12 +259,12 @@ fn time_changes(houses: &mut [OnSite]) -> [f64; 4] {
             black_box(house.site.add_wall(wall).expect("it is accepted"));
         },
         |house| {
-            black_box(library::score(black_box(house.site.table())).expect("it is accepted"));
+            black_box(girderbasil::score(black_box(house.site.table())).expect("it is accepted"));
         },
         |house| {
             let rows = house.site.rows() as u32;
             let mut totals = Totals { held: [0; 6], rows };
-            let scoring = library::raw_start(&mut totals, black_box(house.site.table()));
+            let scoring = girderbasil::raw::start(&mut totals, black_box(house.site.table()));
             assert_eq!(scoring.number, 0, "it is accepted");
             black_box((totals, scoring));
         },

@@ -2,8 +2,8 @@
 
 use super::score::{Assessment, Diagnosis, verdict};
 use super::sheet::{Row, read_into, write_row};
-use crate::answers::Refusal;
-use crate::{LINE, MOST_REPORT_BYTES, MOST_ROWS, ROW};
+use girderbasil::Refusal;
+use girderbasil::{LINE, MOST_REPORT_BYTES, MOST_ROWS, ROW};
 
 const REFUSED: u32 = 0;
 const ASSESSED: u32 = 6;

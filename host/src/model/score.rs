@@ -5,7 +5,7 @@ use super::held::{self, Held};
 use super::layout::{self, Band};
 use super::required;
 use super::survey::{self, Survey};
-use crate::answers::{Record, Refusal};
+use girderbasil::{Record, Refusal};
 
 const MOST_SCORE: u64 = 999;
 

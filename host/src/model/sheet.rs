@@ -1,7 +1,7 @@
 //! "The sheet and the table": the reader and the writer.
 
-use crate::answers::Refusal;
-use crate::{FIELD, LINE, MOST_ROWS, ROW};
+use girderbasil::Refusal;
+use girderbasil::{FIELD, LINE, MOST_ROWS, ROW};
 
 /// A row of a table.
 pub type Row = [u32; ROW];

@@ -6,9 +6,10 @@ use super::held;
 use super::score::Diagnosis;
 use super::sheet::Row;
 use super::survey::{self, Survey, Wall};
-use crate::ROW;
-use crate::answers::{Record, Refusal};
-use crate::site::{Change, Totals, place_of};
+use crate::site::{Change, place_of};
+use girderbasil::ROW;
+use girderbasil::Totals;
+use girderbasil::{Record, Refusal};
 
 /// The most that "any total of the house, moved or not," may be.
 pub const MOST_TOTAL: u64 = 60_000_000_000;

@@ -4,8 +4,8 @@ use std::ops::RangeInclusive;
 
 use super::calendar::{Dates, Day};
 use super::sheet::{Row, whole_rows};
-use crate::answers::Refusal;
-use crate::{MOST_WALLS, ROW};
+use girderbasil::Refusal;
+use girderbasil::{MOST_WALLS, ROW};
 
 const HOUSE: u32 = 1;
 const STOREY: u32 = 2;

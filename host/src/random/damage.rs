@@ -4,7 +4,7 @@ mod dates;
 
 use super::Random;
 use super::house;
-use crate::{FIELD, LINE, MOST_ROWS, MOST_WALLS, ROW};
+use girderbasil::{FIELD, LINE, MOST_ROWS, MOST_WALLS, ROW};
 
 const ENDS: u32 = 3;
 const WALL: u32 = 4;

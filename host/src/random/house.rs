@@ -2,7 +2,7 @@
 
 use super::Random;
 use super::dates::dates_row;
-use crate::ROW;
+use girderbasil::ROW;
 
 const ALL_PARTS: u32 = 8191;
 const ZONES: [u32; 4] = [70, 80, 90, 100];

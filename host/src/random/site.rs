@@ -4,8 +4,9 @@ use super::Random;
 use super::{damage, house};
 use crate::model::score::Diagnosis;
 use crate::model::site::MOST_TOTAL;
-use crate::site::{Change, Totals};
-use crate::{MOST_ROWS, ROW};
+use crate::site::Change;
+use girderbasil::Totals;
+use girderbasil::{MOST_ROWS, ROW};
 
 const WALL: u32 = 4;
 

@@ -1,9 +1,10 @@
 //! Document 02's request 7 worked out: calls on site, one after the other, on P1 with other dates. The numbers in the
 //! names are those of the examples.
 
-use crate::ROW;
-use crate::answers::Refusal;
-use crate::site::{Change, Totals};
+use crate::site::Change;
+use girderbasil::ROW;
+use girderbasil::Refusal;
+use girderbasil::Totals;
 
 type Row = [u32; ROW];
 

@@ -1,11 +1,13 @@
 //! Calls of the library's functions, each with all that it is lent and with what the model says of it: the whole answer,
 //! and what every buffer holds afterwards. A buffer that is only read must stay as it is.
 
-use girderbasil_host::answers::{Record, Refusal};
-use girderbasil_host::library::raw;
-use girderbasil_host::random::Random;
-use girderbasil_host::site::{Change, Totals};
-use girderbasil_host::{LINE, MOST_REPORT_BYTES, MOST_ROWS, ROW, model};
+use girderbasil::Totals;
+use girderbasil::raw;
+use girderbasil::{LINE, MOST_REPORT_BYTES, MOST_ROWS, ROW};
+use girderbasil::{Record, Refusal};
+use girderbasil_tests::model;
+use girderbasil_tests::random::Random;
+use girderbasil_tests::site::Change;
 
 use super::lent::{Lent, lent_length};
 

@@ -2,7 +2,7 @@
 
 use std::ops::Range;
 
-use girderbasil_host::random::Random;
+use girderbasil_tests::random::Random;
 
 /// Storage to be lent, inside a larger buffer. Bytes start anywhere in it, aligned or not.
 #[derive(Debug, Clone)]

@@ -13,8 +13,8 @@ use std::process::{Command, Output, Stdio};
 use std::sync::OnceLock;
 use std::thread;
 
-use girderbasil_host::random::{Random, damage};
-use girderbasil_host::{model, worked};
+use girderbasil_tests::random::{Random, damage};
+use girderbasil_tests::{model, worked};
 
 /// The repository's top.
 pub fn top() -> &'static Path {

@@ -3,10 +3,10 @@
 
 use std::cmp::Ordering;
 
-use girderbasil_host::answers::Record;
-use girderbasil_host::model::deterioration::{self, Fraction};
-use girderbasil_host::model::score::{Assessment, Diagnosis};
-use girderbasil_host::model::survey::{Parts, Survey};
+use girderbasil::Record;
+use girderbasil_tests::model::deterioration::{self, Fraction};
+use girderbasil_tests::model::score::{Assessment, Diagnosis};
+use girderbasil_tests::model::survey::{Parts, Survey};
 
 /// How many scores were met of each kind.
 #[derive(Debug, Default)]

@@ -2,11 +2,13 @@
 
 use std::process::Command;
 
-use girderbasil_host::answers::Record;
-use girderbasil_host::library::raw;
-use girderbasil_host::random::{Random, damage, house, site};
-use girderbasil_host::site::{Change, Totals};
-use girderbasil_host::{MOST_ROWS, ROW, model};
+use girderbasil::Record;
+use girderbasil::Totals;
+use girderbasil::raw;
+use girderbasil::{MOST_ROWS, ROW};
+use girderbasil_tests::model;
+use girderbasil_tests::random::{Random, damage, house, site};
+use girderbasil_tests::site::Change;
 
 use crate::common::calls::{
     DATES_REFUSALS, Diagnose, OnSite, PARTS_REFUSALS, Read, Score, WriteReport,

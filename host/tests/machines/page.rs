@@ -4,8 +4,9 @@ use std::fs;
 use std::path::{Path, PathBuf};
 use std::process::Command;
 
-use girderbasil_host::random::Random;
-use girderbasil_host::{MOST_REPORT_BYTES, MOST_ROWS, model, worked};
+use girderbasil::{MOST_REPORT_BYTES, MOST_ROWS};
+use girderbasil_tests::random::Random;
+use girderbasil_tests::{model, worked};
 
 use crate::{ARM64, X86_64, built, common, compiler, kit_tool, module, node};
 

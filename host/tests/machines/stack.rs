@@ -2,7 +2,7 @@
 
 use std::process::Command;
 
-use girderbasil_host::random::{Random, house};
+use girderbasil_tests::random::{Random, house};
 
 use crate::common::calls::sheet_of;
 use crate::common::header;

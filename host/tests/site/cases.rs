@@ -2,11 +2,13 @@
 
 use std::collections::BTreeMap;
 
-use girderbasil_host::answers::{Record, Refusal};
-use girderbasil_host::model::site::MOST_TOTAL;
-use girderbasil_host::model::survey::Survey;
-use girderbasil_host::site::{Change, Totals, place_of};
-use girderbasil_host::{MOST_WALLS, ROW, model};
+use girderbasil::Totals;
+use girderbasil::{MOST_WALLS, ROW};
+use girderbasil::{Record, Refusal};
+use girderbasil_tests::model;
+use girderbasil_tests::model::site::MOST_TOTAL;
+use girderbasil_tests::model::survey::Survey;
+use girderbasil_tests::site::{Change, place_of};
 
 use crate::common::calls::NUMBERS;
 

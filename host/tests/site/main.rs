@@ -13,17 +13,17 @@ mod wrapper;
 use std::ptr;
 
 use common::calls::raw_scoring;
-use girderbasil_host::answers::Refusal;
-use girderbasil_host::library::{self, raw};
-use girderbasil_host::site::Totals;
-use girderbasil_host::worked::site::{WALL, scripts};
+use girderbasil::Refusal;
+use girderbasil::Totals;
+use girderbasil::raw;
+use girderbasil_tests::worked::site::{WALL, scripts};
 
 #[test]
 fn changes_as_they_are_worked_out() {
     for script in scripts() {
         let (mut lent, mut totals) = (script.lent, script.totals);
         for (index, step) in script.steps.iter().enumerate() {
-            let answer = library::raw_change(&mut totals, &mut lent, &step.change);
+            let answer = step.change.made(&mut totals, &mut lent);
             let name = format!("{}, call {}", script.name, index + 1);
             let (number, row, column) = (answer.number, answer.row, answer.column);
             let expected = step.answer.err().unwrap_or(Refusal::without_place(0));

@@ -2,12 +2,12 @@
 
 use std::fmt::Debug;
 
-use girderbasil_host::answers::{Record, Refusal};
-use girderbasil_host::library;
-use girderbasil_host::model::{self, score::Diagnosis};
-use girderbasil_host::random::{Random, house, site};
-use girderbasil_host::site::{Change, Totals};
-use girderbasil_host::{MOST_WALLS, ROW};
+use girderbasil::Totals;
+use girderbasil::{MOST_WALLS, ROW};
+use girderbasil::{Record, Refusal};
+use girderbasil_tests::model::{self, score::Diagnosis};
+use girderbasil_tests::random::{Random, house, site};
+use girderbasil_tests::site::Change;
 
 use crate::cases::{Call, Tally};
 use crate::common::calls::OnSite;
@@ -57,7 +57,7 @@ impl Visit {
         let mut call = OnSite::new(random, &self.lent, self.totals, change);
         let mut totals = [GUARD, self.totals, GUARD];
 
-        let answer = library::raw_change(&mut totals[1], call.table.slice_mut(), &change);
+        let answer = change.made(&mut totals[1], call.table.slice_mut());
 
         assert_eq!(answer, call.answer(), "{change:?}");
         assert_eq!(totals, [GUARD, call.totals_after, GUARD], "{change:?}");
@@ -84,11 +84,11 @@ impl Visit {
     fn check_own(&self, change: &Change, answer: &Result<Record, Refusal>, tally: &mut Tally) {
         let rows = in_use(&self.lent, &self.totals).expect("they fit");
         assert_eq!(
-            answer.is_ok().then(|| library::score(rows)),
+            answer.is_ok().then(|| girderbasil::score(rows)),
             answer.ok().map(Ok)
         );
         let mut fresh = self.totals;
-        let started = library::raw_start(&mut fresh, rows);
+        let started = girderbasil::raw::start(&mut fresh, rows);
         let places = started.count as usize;
         assert_eq!(started.number, 0);
         assert_eq!(fresh.held[..places], self.totals.held[..places]);

@@ -1,10 +1,10 @@
 //! The safe wrapper, which owns the table and the totals.
 
-use girderbasil_host::answers::Refusal;
-use girderbasil_host::library::{self, Site};
-use girderbasil_host::random::{Random, damage, house, site};
-use girderbasil_host::worked::site::{OPENING, SUMS, TABLE, WALL, WINDOW};
-use girderbasil_host::{MOST_WALLS, ROW};
+use girderbasil::Refusal;
+use girderbasil::{self, Site};
+use girderbasil::{MOST_WALLS, ROW};
+use girderbasil_tests::random::{Random, damage, house, site};
+use girderbasil_tests::worked::site::{OPENING, SUMS, TABLE, WALL, WINDOW};
 
 #[test]
 fn a_visit() {
@@ -35,7 +35,7 @@ fn there_is_room_for_every_wall() {
             let storey = random.between(1, storeys);
             let wall = house::extreme_wall(&mut random, storey);
             let record = site.add_wall(&wall);
-            assert_eq!(record, library::score(site.table()));
+            assert_eq!(record, girderbasil::score(site.table()));
         }
         let too_many = site.add_wall(&WALL).map_err(|refusal| refusal.number);
         assert_eq!(too_many, Err(Refusal::TOO_MANY_WALLS));
@@ -51,7 +51,7 @@ fn a_start_is_refused_as_scoring_refuses() {
     for _ in 0..20_000 {
         let table = damage::any_table(&mut random);
         let started = Site::start(&table).map(|(_, record)| record);
-        assert_eq!(started, library::score(&table));
+        assert_eq!(started, girderbasil::score(&table));
         met[usize::from(started.is_ok())] += 1;
     }
     assert!(met.iter().all(|&met| met >= 5_000), "{met:?}");

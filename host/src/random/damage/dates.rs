@@ -1,8 +1,9 @@
 //! Damage to the dates row, and to the age that is no longer given.
 
 use super::{PARTS, last_row, starts_of, use_unused_column};
+use crate::days;
 use crate::random::Random;
-use crate::{ROW, days};
+use girderbasil::ROW;
 
 const DATES: u32 = 8;
 

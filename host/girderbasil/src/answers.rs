@@ -1,4 +1,4 @@
-//! The answers that documents 01 and 02 name, shared by the library and the model.
+//! The answers that documents 01 and 02 name.
 
 /// Why a sheet or table is refused, and where. Rows and columns count from 1; both are 0 where there is no place.
 #[derive(Debug, Clone, Copy, PartialEq, Eq)]

@@ -1,0 +1,1 @@
+//! The desk's command. What it says of a sheet is the library's; only the words are its own.

@@ -1,0 +1,89 @@
+//! Links the library's archive: the one that `GIRDERBASIL_ARCHIVE` names, or else one that `tools/archive` proves and writes,
+//! so that one cargo command works in a fresh clone.
+
+use std::env;
+use std::error::Error;
+use std::fs;
+use std::path::{Path, PathBuf};
+use std::process::{Command, ExitCode};
+
+const ARCHIVE: &str = "libgirderbasil.a";
+const GIVEN: &str = "GIRDERBASIL_ARCHIVE";
+/// The machine that the archive is made for without being asked, as cargo and as `tools/archive` name it.
+const MACHINE: &str = "x86_64-unknown-linux-gnu";
+const TARGET: &str = "x86_64-linux-gnu";
+
+fn main() -> ExitCode {
+    println!("cargo::rerun-if-env-changed={GIVEN}");
+    match link() {
+        Ok(()) => ExitCode::SUCCESS,
+        Err(error) => {
+            for line in error.to_string().lines() {
+                println!("cargo::error={line}");
+            }
+            ExitCode::FAILURE
+        }
+    }
+}
+
+fn link() -> Result<(), Box<dyn Error>> {
+    let archive = match env::var_os(GIVEN) {
+        Some(given) => {
+            println!("cargo::rerun-if-changed={}", Path::new(&given).display());
+            PathBuf::from(given)
+        }
+        None => made()?,
+    };
+    // `tools/archive` writes the archive anew whenever it is asked to. A copy in cargo's own folder is as old as the last
+    // change of its source, so cargo neither proves again nor links again without need.
+    let out = PathBuf::from(env::var("OUT_DIR")?);
+    let copy = out.join(ARCHIVE);
+    fs::copy(&archive, &copy)
+        .map_err(|error| format!("cannot read the archive {}: {error}", archive.display()))?;
+    println!("cargo::metadata=archive={}", copy.display());
+    println!("cargo::rustc-link-search=native={}", out.display());
+    println!("cargo::rustc-link-lib=static=girderbasil");
+    Ok(())
+}
+
+/// Has the archive written.
+fn made() -> Result<PathBuf, Box<dyn Error>> {
+    let machine = env::var("TARGET")?;
+    if machine != MACHINE {
+        return Err(
+            format!("set {GIVEN} to the archive for {machine}: tools/archive writes one").into(),
+        );
+    }
+    let package = PathBuf::from(env::var("CARGO_MANIFEST_DIR")?);
+    let top = package
+        .ancestors()
+        .nth(2)
+        .ok_or("this package stands in the repository's host/")?;
+    for source in sources(top)? {
+        println!("cargo::rerun-if-changed={}", source.display());
+    }
+    let tool = top.join("tools/archive");
+    let output = Command::new(&tool).arg(TARGET).output().map_err(|error| {
+        format!(
+            "set {GIVEN} to a built archive; {} does not run: {error}",
+            tool.display()
+        )
+    })?;
+    let said = String::from_utf8_lossy(&output.stderr);
+    if !output.status.success() {
+        return Err(format!("no archive could be built, and {GIVEN} names none:\n{said}").into());
+    }
+    eprint!("{said}");
+    Ok(top.join("target/archive").join(TARGET).join(ARCHIVE))
+}
+
+/// What the archive is made from. What `rt` keeps stands beside it, in each crate's out/, and is none of it.
+fn sources(top: &Path) -> Result<Vec<PathBuf>, Box<dyn Error>> {
+    let mut sources = vec![top.join("crates.txt"), top.join("tools/archive")];
+    for entry in fs::read_dir(top.join("crates"))? {
+        let folder = entry?.path();
+        let parts = ["src", "specs", "proofs"].map(|part| folder.join(part));
+        sources.extend(parts.into_iter().filter(|part| part.exists()));
+    }
+    Ok(sources)
+}
