@@ -138,9 +138,17 @@ fn a_read_or_a_write_that_fails_is_told() {
     let open = |path| File::open(top.join(path)).expect("it can be opened");
     let full = File::options().write(true).open("/dev/full");
     let full = full.expect("a device that is always full");
-    for (input, printed) in [
-        (open("examples"), Stdio::piped()),
-        (open("examples/p1.sheet"), full.into()),
+    for (input, printed, words) in [
+        (
+            open("examples"),
+            Stdio::piped(),
+            "standard input can't be read",
+        ),
+        (
+            open("examples/p1.sheet"),
+            full.into(),
+            "the report can't be written",
+        ),
     ] {
         let mut program = Command::new(common::scoring_program());
         let started = program.stdin(input).stdout(printed).stderr(Stdio::piped());
@@ -148,6 +156,10 @@ fn a_read_or_a_write_that_fails_is_told() {
         let output = output.expect("the program runs");
         assert_eq!(output.status.code(), Some(1));
         assert_eq!(output.stdout, b"");
-        assert!(output.stderr.starts_with(b"Error: "));
+        let said = String::from_utf8_lossy(&output.stderr);
+        assert!(
+            said.starts_with(&format!("diagnose: {words}\nError: ")),
+            "{said}"
+        );
     }
 }

@@ -14,6 +14,14 @@ const MOST_INPUT: u64 = 65_536;
 
 fn main(rt: HostRuntime) -> io::Result<()> {
     let mut sheet = Vec::new(rt.alloc());
-    rt.reader().take(MOST_INPUT).read_to_end(&mut sheet)?;
-    rt.write_all(diagnosis::output_of(&sheet).printed())
+    let read = rt.reader().take(MOST_INPUT).read_to_end(&mut sheet);
+    if read.is_err() {
+        eprintln!(rt; "diagnose: standard input can't be read")?;
+    }
+    read?;
+    let printed = rt.write_all(diagnosis::output_of(&sheet).printed());
+    if printed.is_err() {
+        eprintln!(rt; "diagnose: the report can't be written")?;
+    }
+    printed
 }
