@@ -1,7 +1,26 @@
 //! Earthquake diagnosis sheets of Japanese wooden houses, scored by the proved library (general diagnosis, method 1).
 //!
+//! A sheet's bytes are read into a table of numbers, eight a row, and a table is scored or reported. The caller owns all
+//! storage; room for the longest sheet is `MOST_ROWS * ROW` numbers, and for the longest report `MOST_REPORT_BYTES` bytes.
+//!
+//! ```
+//! use girderbasil::{MOST_ROWS, ROW};
+//!
+//! let sheet = include_bytes!("../../../examples/p1.sheet");
+//! let mut table = [0; MOST_ROWS * ROW];
+//! let rows = girderbasil::read(sheet, &mut table)?;
+//! let record = girderbasil::score(&table[..rows * ROW])?;
+//! assert_eq!((record.verdict, record.scores()), (4, &[47, 83][..]));
+//! # Ok::<(), girderbasil::Refusal>(())
+//! ```
+//!
 //! The functions of this package are safe: a Rust slice is what the boundary (`include/girderbasil.h`) asks of a pointer
-//! with a length, and the borrow checker sees to it that storage lent to be filled overlaps nothing else.
+//! with a length, and the borrow checker sees to it that storage lent to be filled overlaps nothing else. None keeps anything
+//! between calls, so any threads may call them.
+//!
+//! The build links the archive of the proved library that the environment's `GIRDERBASIL_ARCHIVE` names by its whole path, or
+//! without that one that `tools/archive` makes, for which the Rattle kit has to be there.
+#![warn(missing_docs)]
 
 mod answers;
 pub mod raw;
@@ -24,27 +43,79 @@ pub const MOST_ROWS: usize = 1 + 3 + 6 + MOST_WALLS + 1 + 1;
 /// The bytes of the longest report: two lines for each of three storeys, and the verdict's.
 pub const MOST_REPORT_BYTES: usize = 7 * LINE;
 
-/// Reads a sheet into a lent table: how many rows were read. A refusal leaves the table as it was.
+/// Reads a sheet into a lent table: how many rows were read, at its front. What is after them stays as it was.
+///
+/// # Errors
+///
+/// Refused with 1, 9 or 2, tested in that order ([`Refusal`]). A refusal leaves the table as it was.
+///
+/// ```
+/// let line = format!("{:8}{:8}{:8}{:8}{:8}{:8}{:8}{:8}\n", 1, 1, 2, 100, 1, 1, 0, 0);
+/// let mut table = [9; 10];
+/// assert_eq!(girderbasil::read(line.as_bytes(), &mut table), Ok(1));
+/// assert_eq!(table, [1, 1, 2, 100, 1, 1, 0, 0, 9, 9]);
+/// ```
 pub fn read(sheet: &[u8], table: &mut [u32]) -> Result<usize, Refusal> {
     count_or_refusal(raw::read(sheet, table))
 }
 
 /// Scores a table.
+///
+/// # Errors
+///
+/// Refused with one of 1, 3, 4, 5, 6, 7, 8, 10 and 11 ([`Refusal`]), in the order that docs/REFUSALS.md has.
+///
+/// ```
+/// use girderbasil::Refusal;
+///
+/// let house = [1, 1, 2, 95, 1, 1, 0, 0];
+/// assert_eq!(girderbasil::score(&house), Err(Refusal::at(Refusal::OUT_OF_RANGE, 1, 4)));
+/// ```
 pub fn score(table: &[u32]) -> Result<Record, Refusal> {
     record_or_refusal(raw::score(table))
 }
 
-/// Writes a table's report into lent bytes: how many were written. A refusal leaves the bytes as they were.
+/// Writes a table's report into lent bytes: how many were written, at their front. What is after them stays as it was.
+///
+/// # Errors
+///
+/// Refused as [`score`] refuses; else with 9 where the report is longer than what was lent. A refusal leaves the bytes as they
+/// were.
+///
+/// ```
+/// use girderbasil::{LINE, MOST_REPORT_BYTES, Refusal, write_report};
+///
+/// # let sheet = include_bytes!("../../../examples/p1.sheet");
+/// # let mut table = vec![0; sheet.len() / LINE * girderbasil::ROW];
+/// # girderbasil::read(sheet, &mut table)?;
+/// let mut report = [0; MOST_REPORT_BYTES];
+/// let bytes = write_report(&table, &mut report)?;
+/// assert_eq!(report[..bytes], girderbasil::diagnose(sheet));
+/// assert_eq!(write_report(&table, &mut report[..LINE]), Err(Refusal::without_place(9)));
+/// # Ok::<(), Refusal>(())
+/// ```
 pub fn write_report(table: &[u32], report: &mut [u8]) -> Result<usize, Refusal> {
     count_or_refusal(raw::write_report(table, report))
 }
 
 /// What the scoring program prints for a sheet: its report, or the line of its refusal alone.
+///
+/// ```
+/// let printed = girderbasil::diagnose(b"no sheet");
+/// assert_eq!(printed, b"       0       1       0       0       0       0       0       0\n");
+/// ```
 pub fn diagnose(sheet: &[u8]) -> Vec<u8> {
     output(sheet).bytes().to_vec()
 }
 
 /// The same, with the refusal that it tells.
+///
+/// ```
+/// let output = girderbasil::output(include_bytes!("../../../examples/refused.sheet"));
+/// let refusal = output.refusal().expect("its ends exceed the storey");
+/// assert_eq!(refusal.to_string(), "refused 6, row 3, column 4");
+/// assert_eq!(output.bytes().len(), girderbasil::LINE);
+/// ```
 pub fn output(sheet: &[u8]) -> Output {
     Output(raw::diagnose(sheet))
 }

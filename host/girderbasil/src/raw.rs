@@ -6,9 +6,13 @@ use crate::{MOST_REPORT_BYTES, ROW, Totals};
 #[repr(C)]
 #[derive(Debug, Clone, Copy, PartialEq, Eq)]
 pub struct Answer {
+    /// 0 where accepted, else the refusal's number.
     pub number: u32,
+    /// The refusal's row, counted from 1; 0 where it has no place.
     pub row: u32,
+    /// The refusal's column, likewise.
     pub column: u32,
+    /// Rows read or bytes written; 0 where refused.
     pub count: u32,
 }
 
@@ -16,15 +20,25 @@ pub struct Answer {
 #[repr(C)]
 #[derive(Debug, Clone, Copy, PartialEq, Eq)]
 pub struct Scoring {
+    /// 0 where scored, else the refusal's number; then the record is all 0.
     pub number: u32,
+    /// The refusal's row, counted from 1; 0 where it has no place.
     pub row: u32,
+    /// The refusal's column, likewise.
     pub column: u32,
+    /// The fields from here on are those of [`Record`](crate::Record).
     pub scores: [u32; 6],
+    /// How many scores there are.
     pub count: u32,
+    /// The verdict, 1 to 4.
     pub verdict: u32,
+    /// 1 where work started by that day; else 0.
     pub started_by_31_may_1981: u32,
+    /// The scores before their limit.
     pub hundredths: [u64; 6],
+    /// What is left over.
     pub remainders: [u64; 6],
+    /// What was divided by.
     pub divisors: [u64; 6],
 }
 
@@ -32,10 +46,15 @@ pub struct Scoring {
 #[repr(C)]
 #[derive(Debug, Clone, Copy, PartialEq, Eq)]
 pub struct Output {
+    /// 0 where it is the report, else the refusal's number; then it is the refusal's line.
     pub number: u32,
+    /// The refusal's row, counted from 1; 0 where it has no place.
     pub row: u32,
+    /// The refusal's column, likewise.
     pub column: u32,
+    /// How many bytes are printed, for a refusal too.
     pub count: u32,
+    /// The bytes that are printed, and 0 after them.
     pub bytes: [u8; MOST_REPORT_BYTES],
 }
 
@@ -43,6 +62,7 @@ pub struct Output {
 // for none with length 0; that `totals` stands for one record, and `wall` for a row; and that what is lent as
 // `*mut` overlaps no other argument.
 unsafe extern "C" {
+    /// Reads a sheet into a lent table.
     pub fn girderbasil_read(
         sheet: *const u8,
         sheet_length: usize,
@@ -50,8 +70,10 @@ unsafe extern "C" {
         table_length: usize,
     ) -> Answer;
 
+    /// Scores a table.
     pub fn girderbasil_score(table: *const u32, table_length: usize) -> Scoring;
 
+    /// Writes a table's report into lent bytes.
     pub fn girderbasil_write_report(
         table: *const u32,
         table_length: usize,
@@ -59,14 +81,17 @@ unsafe extern "C" {
         report_length: usize,
     ) -> Answer;
 
+    /// What the scoring program prints for a sheet.
     pub fn girderbasil_diagnose(sheet: *const u8, sheet_length: usize) -> Output;
 
+    /// Fills in the totals of the rows in use.
     pub fn girderbasil_start(
         totals: *mut Totals,
         table: *const u32,
         table_length: usize,
     ) -> Scoring;
 
+    /// Adds a wall to the rows in use.
     pub fn girderbasil_add_wall(
         totals: *mut Totals,
         table: *mut u32,
@@ -74,6 +99,7 @@ unsafe extern "C" {
         wall: *const u32,
     ) -> Scoring;
 
+    /// Deletes the wall at a row.
     pub fn girderbasil_delete_wall(
         totals: *mut Totals,
         table: *mut u32,

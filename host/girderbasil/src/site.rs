@@ -18,6 +18,20 @@ pub struct Totals {
 /// the sums over its walls, and each answer is what scoring the table anew would give.
 ///
 /// It has room for as many walls as a house may have, so an addition is never refused for want of it.
+///
+/// ```
+/// use girderbasil::{LINE, ROW, Refusal, Site};
+///
+/// # let sheet = include_bytes!("../../../examples/p1.sheet");
+/// # let mut table = vec![0; sheet.len() / LINE * ROW];
+/// # girderbasil::read(sheet, &mut table)?;
+/// let (mut site, record) = Site::start(&table)?;
+/// assert_eq!(record.scores(), [47, 83]);
+/// assert_eq!(site.add_wall(&[4, 1, 1, 2, 20, 2000, 1, 1])?.scores(), [68, 83]);
+/// assert_eq!(site.delete_wall(6)?.scores(), [62, 83]);
+/// assert_eq!(site.delete_wall(4), Err(Refusal::at(Refusal::NO_SUCH_WALL, 4, 0)));
+/// # Ok::<(), Refusal>(())
+/// ```
 #[derive(Debug, Clone, PartialEq, Eq)]
 pub struct Site {
     table: Vec<u32>,
@@ -25,7 +39,11 @@ pub struct Site {
 }
 
 impl Site {
-    /// Starts with a copy of a table, all of whose rows are in use. It is refused where scoring refuses it.
+    /// Starts with a copy of a table, all of whose rows are in use.
+    ///
+    /// # Errors
+    ///
+    /// Refused where [`score`](crate::score) refuses the table.
     pub fn start(table: &[u32]) -> Result<(Self, Record), Refusal> {
         // What is left over of a length counts as a row, which doesn't fit. More rows than 32 bits count are as many too
         // many.
@@ -37,13 +55,21 @@ impl Site {
         Ok((Self { table, totals }, record))
     }
 
-    /// Adds a wall after the last whose storey isn't above its own: the record of the house with it. A refusal leaves the
-    /// house as it was.
+    /// Adds a wall after the last whose storey isn't above its own: the record of the house with it.
+    ///
+    /// # Errors
+    ///
+    /// Refused with 4 for a column of the wall, or with 5 where the house has [`MOST_WALLS`](crate::MOST_WALLS) walls, both
+    /// at the row that the wall would take. A refusal leaves the house as it was.
     pub fn add_wall(&mut self, wall: &[u32; ROW]) -> Result<Record, Refusal> {
         record_or_refusal(raw::add_wall(&mut self.totals, &mut self.table, wall))
     }
 
-    /// Deletes the wall at a row, counted from 1: the record of the house without it. A refusal leaves the house as it was.
+    /// Deletes the wall at a row, counted from 1: the record of the house without it.
+    ///
+    /// # Errors
+    ///
+    /// Refused with 12 at that row where it is no wall's. A refusal leaves the house as it was.
     pub fn delete_wall(&mut self, row: u32) -> Result<Record, Refusal> {
         record_or_refusal(raw::delete_wall(&mut self.totals, &mut self.table, row))
     }
