@@ -28,11 +28,8 @@ fn main() -> ExitCode {
 
 fn link() -> Result<(), Box<dyn Error>> {
     let archive = match env::var_os(GIVEN) {
-        Some(given) => {
-            println!("cargo::rerun-if-changed={}", Path::new(&given).display());
-            PathBuf::from(given)
-        }
-        None => made()?,
+        Some(given) if !given.is_empty() => whole_path(given.into())?,
+        _ => made()?,
     };
     // `tools/archive` writes the archive anew whenever it is asked to. A copy in cargo's own folder is as old as the last
     // change of its source, so cargo neither proves again nor links again without need.
@@ -44,6 +41,16 @@ fn link() -> Result<(), Box<dyn Error>> {
     println!("cargo::rustc-link-search=native={}", out.display());
     println!("cargo::rustc-link-lib=static=girderbasil");
     Ok(())
+}
+
+/// The archive that is given. Cargo runs this in the package's folder, where a path that starts at the caller's own would
+/// lead elsewhere.
+fn whole_path(given: PathBuf) -> Result<PathBuf, Box<dyn Error>> {
+    if given.is_relative() {
+        return Err(format!("{GIVEN} is no whole path from / on: {}", given.display()).into());
+    }
+    println!("cargo::rerun-if-changed={}", given.display());
+    Ok(given)
 }
 
 /// Has the archive written.

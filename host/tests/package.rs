@@ -1,0 +1,152 @@
+//! The package `girderbasil` as another's cargo builds it: with an archive that is given, with none, and as a dependency.
+
+mod common;
+
+use std::env;
+use std::ffi::OsString;
+use std::fs;
+use std::os::unix::fs::symlink;
+use std::path::{Path, PathBuf};
+use std::process::{Command, Output};
+
+const GIVEN: &str = "GIRDERBASIL_ARCHIVE";
+const ARCHIVE: &str = env!("GIRDERBASIL_ARCHIVE");
+
+/// A program of somebody's, with P1 beside it.
+const MANIFEST: &str = r#"
+[package]
+name = "caller"
+version = "0.0.0"
+edition = "2024"
+
+[dependencies]
+girderbasil = { path = "PACKAGE" }
+
+[workspace]
+"#;
+const PROGRAM: &str = r#"
+use girderbasil::{MOST_ROWS, ROW};
+
+fn main() -> Result<(), Box<dyn std::error::Error>> {
+    let sheet = std::fs::read("p1.sheet")?;
+    let mut table = [0; MOST_ROWS * ROW];
+    let rows = girderbasil::read(&sheet, &mut table)?;
+    let record = girderbasil::score(&table[..rows * ROW])?;
+    println!("verdict {}, scores {:?}", record.verdict, record.scores());
+    Err(girderbasil::score(&table[..ROW]).unwrap_err().into())
+}
+"#;
+
+fn package() -> PathBuf {
+    common::top().join("host/girderbasil")
+}
+
+/// The folders in which programs are looked for, but without the kit's `rt`: in the place of a folder that has it stands one
+/// with links to all else that is there.
+fn path_without_rt(folder: &Path) -> OsString {
+    let path = env::var_os("PATH").expect("folders of programs");
+    let mut folders = vec![];
+    for (each, original) in env::split_paths(&path).enumerate() {
+        if !original.join("rt").exists() {
+            folders.push(original);
+            continue;
+        }
+        let links = folder.join(format!("path-{each}"));
+        fs::create_dir(&links).expect("a folder of links");
+        for entry in fs::read_dir(&original).expect("a folder of programs") {
+            let program = entry.expect("a program");
+            if program.file_name() != "rt" {
+                symlink(program.path(), links.join(program.file_name())).expect("a link");
+            }
+        }
+        folders.push(links);
+    }
+    env::join_paths(folders).expect("folders")
+}
+
+/// A command of cargo's on a manifest, in a target folder of its own, with no `rt` to be found.
+fn cargo(subcommand: &str, manifest: &Path, folder: &Path) -> Command {
+    let mut cargo = Command::new(env!("CARGO"));
+    cargo
+        .args([subcommand, "--release", "--offline", "--quiet"])
+        .arg("--manifest-path")
+        .arg(manifest)
+        .arg("--target-dir")
+        .arg(folder.join("target"))
+        .env("PATH", path_without_rt(folder))
+        .env_remove(GIVEN);
+    cargo
+}
+
+/// Builds the package, with something as its archive or nothing.
+fn build(name: &str, archive: Option<&str>) -> Output {
+    let folder = common::empty_folder(name);
+    let mut build = cargo("build", &package().join("Cargo.toml"), &folder);
+    common::output(build.envs(archive.map(|archive| (GIVEN, archive))))
+}
+
+/// Asserts that a build failed with these lines alone of the package's own, and without a panic.
+fn assert_refused(output: &Output, expected: &[&str]) {
+    let said = String::from_utf8_lossy(&output.stderr);
+    let prefix = format!("error: girderbasil@{}: ", env!("CARGO_PKG_VERSION"));
+    let own = said.lines().filter_map(|line| line.strip_prefix(&*prefix));
+    assert_eq!(own.collect::<Vec<_>>(), expected, "{said}");
+    assert!(!said.contains("panicked"), "{said}");
+    assert_eq!(output.status.code(), Some(101));
+}
+
+#[test]
+fn the_archive_that_is_given_is_linked() {
+    let output = build("package-given", Some(ARCHIVE));
+    common::assert_silent(&output, "cargo build");
+}
+
+#[test]
+fn an_archive_that_is_not_there() {
+    let output = build("package-missing", Some("/there/is/no.a"));
+    let said = "cannot read the archive /there/is/no.a: No such file or directory (os error 2)";
+    assert_refused(&output, &[said]);
+}
+
+#[test]
+fn an_archive_by_a_path_that_starts_elsewhere() {
+    let output = build("package-relative", Some("target/libgirderbasil.a"));
+    let said = "GIRDERBASIL_ARCHIVE is no whole path from / on: target/libgirderbasil.a";
+    assert_refused(&output, &[said]);
+}
+
+/// A variable that is set to nothing names nothing.
+#[test]
+fn no_archive_and_no_kit() {
+    for (name, archive) in [("package-none", None), ("package-empty", Some(""))] {
+        let output = build(name, archive);
+        let said = "no archive could be built, and GIRDERBASIL_ARCHIVE names none:";
+        assert_refused(&output, &[said, "archive: rt is missing"]);
+    }
+}
+
+#[test]
+fn another_program_has_it_as_a_dependency() {
+    let folder = common::empty_folder("package-caller");
+    let package = package();
+    let manifest = MANIFEST.replace("PACKAGE", package.to_str().expect("a path of text"));
+    fs::create_dir(folder.join("src")).expect("a folder");
+    fs::write(folder.join("Cargo.toml"), manifest).expect("a manifest");
+    fs::write(folder.join("src/main.rs"), PROGRAM).expect("a program");
+    fs::copy(
+        common::top().join("examples/p1.sheet"),
+        folder.join("p1.sheet"),
+    )
+    .expect("P1");
+    let mut run = cargo("run", &folder.join("Cargo.toml"), &folder);
+    let output = common::output(run.env(GIVEN, ARCHIVE).current_dir(&folder));
+    let said = String::from_utf8_lossy(&output.stderr);
+    assert_eq!(
+        String::from_utf8_lossy(&output.stdout),
+        "verdict 4, scores [47, 83]\n",
+        "{said}"
+    );
+    // A refusal is an error like any other; its fields are what `main` shows of one.
+    assert_eq!(said, "Error: Refusal { number: 3, row: 2, column: 1 }\n");
+    assert_eq!(output.status.code(), Some(1));
+}
