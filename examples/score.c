@@ -1,5 +1,5 @@
 /* Scores a sheet: `score FILE` prints the house's report, or the line that says why the sheet is refused. Where the
- * house is scored, it also shows the scores in a way of its own, on standard error.
+ * house is scored, it also shows the scores in a way of its own, on standard error; else the trade's words for why not.
  *
  *     tools/archive x86_64-linux-gnu
  *     cc -std=c99 -I include examples/score.c target/archive/x86_64-linux-gnu/libgirderbasil.a -o score
@@ -50,9 +50,13 @@ int main(int argc, char **argv)
         perror("standard output");
         return 3;
     }
+    if (output.number != 0) {
+        fprintf(stderr, "refused: %s\n", girderbasil_refusal_words(output.number));
+        return 1;
+    }
 
-    /* By steps, for a host that shows the scores its own way. From bytes to numbers: each line becomes a row of
-     * eight. */
+    /* By steps, for a host that shows the scores its own way; each step refuses what the whole way would. From bytes
+     * to numbers: each line becomes a row of eight. */
     read = girderbasil_read(sheet, length, table, sizeof table / sizeof table[0]);
     if (read.number != 0)
         return 1;

@@ -23,6 +23,9 @@
 #include <stddef.h>
 #include <stdint.h>
 
+/* The version of this header and of the library that belongs to it. */
+#define GIRDERBASIL_VERSION "0.7.0"
+
 #ifdef __cplusplus
 extern "C" {
 #endif
@@ -42,6 +45,29 @@ enum {
     GIRDERBASIL_DATES_OUT_OF_ORDER = 11,
     GIRDERBASIL_NO_SUCH_WALL = 12
 };
+
+/* The trade's words for an answer's number, those of docs/REFUSALS.md; `accepted` for 0, and `unknown` for a number
+ * that no answer has. It is the header's own, and not in the archive.
+ */
+static inline const char *girderbasil_refusal_words(uint32_t number)
+{
+    static const char *const words[] = {
+        "accepted",
+        "sheet length",
+        "misprint",
+        "row out of order",
+        "out of range",
+        "too many walls",
+        "ends exceed storey",
+        "mark on absent part",
+        "no parts",
+        "lent space short",
+        "no such day",
+        "dates out of order",
+        "no such wall",
+    };
+    return number < sizeof words / sizeof words[0] ? words[number] : "unknown";
+}
 
 /* The bytes of a line, the numbers of a row; the most walls of a house; and the most rows and bytes that are
  * ever needed. The longest sheet has the house, three storeys, six lines of ends, the walls, the parts and the

@@ -122,12 +122,13 @@ fn it_says_whether_work_started_by_31_may_1981() {
 fn refused_sheets_are_told_with_row_before_column() {
     let folder = common::folder("refused");
     let program = compiled(&folder);
-    for (sheet, line) in worked::refused() {
+    let said = ["refused: misprint\n", "refused: ends exceed storey\n"];
+    for ((sheet, line), said) in worked::refused().into_iter().zip(said) {
         let file = folder.join("refused.sheet");
         fs::write(&file, sheet).expect("the sheet is written");
         let output = run(&program, &file);
         assert_eq!(String::from_utf8_lossy(&output.stdout), line);
-        assert_eq!(output.stderr, b"");
+        assert_eq!(String::from_utf8_lossy(&output.stderr), said);
         assert_eq!(output.status.code(), Some(1));
     }
 }

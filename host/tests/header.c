@@ -1,5 +1,6 @@
 /* Every name of include/girderbasil.h against the library. Each refusal is provoked by a sheet or a table of its
- * own, made from P1 of document 01, and each size is tried at its edge.
+ * own, made from P1 of document 01, and each size is tried at its edge. The version is compared with the one argument,
+ * and the trade's words with those of the papers.
  *
  * Prints a line for each difference; the exit status is 0 where there is none. It is C and C++ at once:
  * host/tests/header.rs compiles and runs it as both.
@@ -463,8 +464,33 @@ static void try_changes(void)
                     GIRDERBASIL_TOO_MANY_WALLS, 305, 1, no_record);
 }
 
-int main(void)
+static void compare_text(const char *of_what, const char *told, const char *due)
 {
+    if (strcmp(told, due) != 0) {
+        printf("%s: \"%s\" where \"%s\" is due\n", of_what, told, due);
+        differences++;
+    }
+}
+
+/* By the numbers of the papers, and not by the header's names for them. */
+static void try_words(void)
+{
+    static const char *const due[] = {
+        "accepted",     "sheet length",       "misprint",            "row out of order", "out of range",
+        "too many walls", "ends exceed storey", "mark on absent part", "no parts",         "lent space short",
+        "no such day",  "dates out of order", "no such wall",        "unknown",          "unknown",
+    };
+    uint32_t number;
+
+    for (number = 0; number < sizeof due / sizeof due[0]; number++)
+        compare_text("a refusal's words", girderbasil_refusal_words(number), due[number]);
+    compare_text("the words of no refusal", girderbasil_refusal_words(UINT32_MAX), "unknown");
+}
+
+int main(int argc, char **argv)
+{
+    compare_text("the version", GIRDERBASIL_VERSION, argc == 2 ? argv[1] : "");
+    try_words();
     try_p1();
     try_starts();
     try_limit();

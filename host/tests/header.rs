@@ -9,15 +9,23 @@ use std::fs;
 use std::path::{Path, PathBuf};
 use std::process::{Command, Output};
 
-use common::header::{HEADER, functions, words};
+use common::header::{HEADER, functions, inline_functions, words};
 
 const PROGRAM: &str = include_str!("header.c");
 
-/// The numbers that the header names. The word left out keeps it from being included twice.
+const VERSION: &str = "GIRDERBASIL_VERSION";
+
+/// The numbers that the header names. Of the words left out one keeps it from being included twice, and one is a text.
 fn names() -> Vec<&'static str> {
     words(HEADER, |word| {
-        word.starts_with("GIRDERBASIL_") && word != "GIRDERBASIL_H"
+        word.starts_with("GIRDERBASIL_") && word != "GIRDERBASIL_H" && word != VERSION
     })
+}
+
+/// The texts of the header, without their quotes. The one left out is the language of a linkage.
+fn texts() -> Vec<&'static str> {
+    let quoted = HEADER.split('"').skip(1).step_by(2);
+    quoted.filter(|text| *text != "C").collect()
 }
 
 /// Compiles tests/header.c with a header, as a standard.
@@ -29,6 +37,11 @@ fn compile_with(header: &str, standard: &str, folder: &Path) -> (PathBuf, Output
     (program, output)
 }
 
+/// The version that the header has to have is this package's, as it is of all.
+fn run(program: &Path) -> Output {
+    common::output(Command::new(program).arg(env!("CARGO_PKG_VERSION")))
+}
+
 /// Compiles tests/header.c with a header that may differ from the library, and runs it: whether it saw no difference.
 fn agrees(header: &str, folder: &Path) -> bool {
     let (program, output) = compile_with(header, "c99", folder);
@@ -37,7 +50,7 @@ fn agrees(header: &str, folder: &Path) -> bool {
         "{}",
         String::from_utf8_lossy(&output.stderr)
     );
-    let run = Command::new(program).output().expect("it runs");
+    let run = run(&program);
     // It says what differs exactly where it exits with 1; it ends in no other way.
     assert_eq!(run.status.code(), Some(i32::from(!run.stdout.is_empty())));
     run.status.success()
@@ -48,7 +61,7 @@ fn every_name_means_what_the_library_does() {
     let folder = common::folder("header");
     for standard in ["c99", "c11", "c++98", "c++11"] {
         let program = common::compiled(standard, "host/tests/header.c", folder.join(standard));
-        let run = Command::new(program).output().expect("it runs");
+        let run = run(&program);
         assert_eq!(String::from_utf8_lossy(&run.stdout), "", "as {standard}");
         assert_eq!(run.status.code(), Some(0), "as {standard}");
     }
@@ -59,9 +72,14 @@ fn every_name_is_compared() {
     let compared = words(PROGRAM, |word| {
         word.to_lowercase().starts_with("girderbasil_")
     });
-    let (names, functions) = (names(), functions());
-    assert!(names.len() >= 17 && functions.len() >= 7);
-    for name in names.iter().chain(&functions) {
+    let (names, functions, inline) = (names(), functions(), inline_functions());
+    assert!(names.len() >= 17 && functions.len() >= 7 && inline.len() == 1);
+    for name in names
+        .iter()
+        .chain(&functions)
+        .chain(&inline)
+        .chain([&VERSION])
+    {
         assert!(compared.contains(name), "tests/header.c never uses {name}");
     }
 }
@@ -74,6 +92,18 @@ fn another_number_for_a_name_is_seen() {
         let changed = HEADER.replace(&format!("{name} = "), &format!("{name} = 1 + "));
         assert!(changed != HEADER, "{name} has no number");
         assert!(!agrees(&changed, &folder), "{name} may be one more");
+    }
+}
+
+#[test]
+fn another_text_is_seen() {
+    let folder = common::folder("header-texts");
+    let texts = texts();
+    // The version, and the words for 0, for each refusal and for any other number.
+    assert_eq!(texts.len(), 1 + 1 + 12 + 1);
+    for text in texts {
+        let changed = HEADER.replace(&format!("\"{text}\""), &format!("\"{text}s\""));
+        assert!(!agrees(&changed, &folder), "{text} may be another");
     }
 }
 

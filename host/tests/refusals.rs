@@ -1,8 +1,73 @@
-//! What the Rust wrapper says of a refusal and of a record.
+//! The trade's words for each refusal, which stand in docs/REFUSALS.md, in the header and in the Rust wrapper; and what else
+//! the wrapper says of a refusal and of a record.
+
+mod common;
 
 use std::error::Error;
+use std::fs;
+use std::process::Command;
 
 use girderbasil::{Record, Refusal};
+
+/// Numbers that no refusal has.
+const NONE: [u32; 3] = [0, 13, u32::MAX];
+
+/// Prints the header's words for each number that is asked for.
+const PROGRAM: &str = r#"
+#include <stdio.h>
+#include <stdlib.h>
+#include "girderbasil.h"
+int main(int argc, char **argv)
+{
+    int each;
+    for (each = 1; each < argc; each++)
+        puts(girderbasil_refusal_words((uint32_t)strtoul(argv[each], NULL, 10)));
+    return 0;
+}
+"#;
+
+/// The numbers of the page's refusals, with their words.
+fn on_the_page() -> Vec<(u32, String)> {
+    let page = fs::read_to_string(common::top().join("docs/REFUSALS.md")).expect("the page");
+    let rows = page.lines().map(common::cells);
+    rows.filter_map(|cells| Some((cells.get(1)?.parse().ok()?, cells.get(2)?.to_string())))
+        .collect()
+}
+
+/// The header's words for some numbers.
+fn in_the_header(numbers: &[u32]) -> Vec<String> {
+    let folder = common::folder("refusals");
+    let source = folder.join("refusals.c");
+    fs::write(&source, PROGRAM).expect("the program is written");
+    let program = folder.join("refusals");
+    let include = common::top().join("include");
+    let output = common::compile("c99", &include, &source, &program);
+    common::assert_silent(&output, "the program");
+    let numbers = numbers.iter().map(u32::to_string);
+    let output = common::output(Command::new(program).args(numbers));
+    let words = String::from_utf8(output.stdout).expect("it prints text");
+    words.lines().map(str::to_owned).collect()
+}
+
+fn in_rust(number: u32) -> &'static str {
+    Refusal::without_place(number).words()
+}
+
+#[test]
+fn page_header_and_wrapper_have_the_same_words() {
+    let page = on_the_page();
+    let (numbers, words): (Vec<u32>, Vec<String>) = page.into_iter().unzip();
+    assert_eq!(numbers, (1..=12).collect::<Vec<_>>());
+    assert_eq!(in_the_header(&numbers), words);
+    assert_eq!(numbers.into_iter().map(in_rust).collect::<Vec<_>>(), words);
+}
+
+/// The number 0 is one of an answer that is no refusal. The wrapper has no refusal of that number, but a caller can make one.
+#[test]
+fn what_is_no_refusal_has_none_of_these_words() {
+    assert_eq!(in_the_header(&NONE), ["accepted", "unknown", "unknown"]);
+    assert_eq!(NONE.map(in_rust), ["unknown"; 3]);
+}
 
 #[test]
 fn a_refusal_is_shown_with_what_it_has_of_a_place() {

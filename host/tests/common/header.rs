@@ -13,11 +13,25 @@ pub fn words(text: &'static str, wanted: fn(&str) -> bool) -> Vec<&'static str> 
     words
 }
 
-/// The functions that the header declares: words that an opening bracket follows.
+/// The functions that the header declares, which are the library's.
 pub fn functions() -> Vec<&'static str> {
-    let declared = HEADER.lines().filter(|line| !line.starts_with([' ', '#']));
-    let mut functions: Vec<&str> = declared
+    named_functions(|line| !line.starts_with(INLINE))
+}
+
+/// The functions that the header has itself.
+pub fn inline_functions() -> Vec<&'static str> {
+    named_functions(|line| line.starts_with(INLINE))
+}
+
+const INLINE: &str = "static inline ";
+
+/// Words that an opening bracket follows, on lines of a kind.
+fn named_functions(wanted: fn(&str) -> bool) -> Vec<&'static str> {
+    let lines = HEADER.lines().filter(|line| !line.starts_with([' ', '#']));
+    let mut functions: Vec<&str> = lines
+        .filter(|line| wanted(line))
         .filter_map(|line| line.split_once('(')?.0.split_whitespace().last())
+        .map(|word| word.trim_start_matches('*'))
         .filter(|word| word.starts_with("girderbasil_") && *word != "girderbasil_assert")
         .collect();
     functions.sort_unstable();
