@@ -133,6 +133,24 @@ fn refused_sheets_are_told_with_row_before_column() {
     }
 }
 
+/// The same with a shared object, which is made of the archive as README.md has it.
+#[test]
+fn a_shared_object_of_the_archive_serves_as_well() {
+    let folder = common::folder("shared-object");
+    let object = folder.join("libgirderbasil.so");
+    let mut cc = Command::new("cc");
+    cc.args(["-shared", "-o"]).arg(&object);
+    cc.args(["-Wl,--whole-archive", env!("GIRDERBASIL_ARCHIVE")]);
+    common::assert_silent(&common::output(cc.arg("-Wl,--no-whole-archive")), "cc");
+    let program = folder.join("score");
+    let mut cc = common::compiler("cc", "c99", &common::top().join("include"));
+    cc.arg(common::top().join("examples/score.c")).arg(object);
+    common::assert_silent(&common::output(cc.arg("-o").arg(&program)), "cc");
+    let output = run(&program, &common::top().join("examples/p1.sheet"));
+    assert_eq!(output.stdout, worked::REPORT.as_bytes());
+    assert_eq!(output.status.code(), Some(0));
+}
+
 #[test]
 fn a_report_or_line_that_cannot_be_printed() {
     let program = compiled(&common::folder("unprintable"));
