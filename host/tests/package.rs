@@ -12,7 +12,9 @@ use std::process::{Command, Output};
 const GIVEN: &str = "GIRDERBASIL_ARCHIVE";
 const ARCHIVE: &str = env!("GIRDERBASIL_ARCHIVE");
 
-/// A program of somebody's, with P1 beside it.
+const README: &str = include_str!("../../README.md");
+
+/// A package of somebody's. Its dependency is the one that README.md has.
 const MANIFEST: &str = r#"
 [package]
 name = "caller"
@@ -20,22 +22,16 @@ version = "0.0.0"
 edition = "2024"
 
 [dependencies]
-girderbasil = { path = "PACKAGE" }
+DEPENDENCY
 
 [workspace]
 "#;
-const PROGRAM: &str = r#"
-use girderbasil::{MOST_ROWS, ROW};
 
-fn main() -> Result<(), Box<dyn std::error::Error>> {
-    let sheet = std::fs::read("p1.sheet")?;
-    let mut table = [0; MOST_ROWS * ROW];
-    let rows = girderbasil::read(&sheet, &mut table)?;
-    let record = girderbasil::score(&table[..rows * ROW])?;
-    println!("verdict {}, scores {:?}", record.verdict, record.scores());
-    Err(girderbasil::score(&table[..ROW]).unwrap_err().into())
+/// What stands in the README between two marks.
+fn in_readme(before: &str, after: &str) -> &'static str {
+    let (_, rest) = README.split_once(before).expect("it is there");
+    rest.split_once(after).expect("it ends").0
 }
-"#;
 
 fn package() -> PathBuf {
     common::top().join("host/girderbasil")
@@ -64,11 +60,11 @@ fn path_without_rt(folder: &Path) -> OsString {
     env::join_paths(folders).expect("folders")
 }
 
-/// A command of cargo's on a manifest, in a target folder of its own, with no `rt` to be found.
-fn cargo(subcommand: &str, manifest: &Path, folder: &Path) -> Command {
+/// A build of a manifest's package, in a target folder of its own, with no `rt` to be found.
+fn cargo_build(manifest: &Path, folder: &Path) -> Command {
     let mut cargo = Command::new(env!("CARGO"));
     cargo
-        .args([subcommand, "--release", "--offline", "--quiet"])
+        .args(["build", "--release", "--offline", "--quiet"])
         .arg("--manifest-path")
         .arg(manifest)
         .arg("--target-dir")
@@ -81,7 +77,7 @@ fn cargo(subcommand: &str, manifest: &Path, folder: &Path) -> Command {
 /// Builds the package, with something as its archive or nothing.
 fn build(name: &str, archive: Option<&str>) -> Output {
     let folder = common::empty_folder(name);
-    let mut build = cargo("build", &package().join("Cargo.toml"), &folder);
+    let mut build = cargo_build(&package().join("Cargo.toml"), &folder);
     common::output(build.envs(archive.map(|archive| (GIVEN, archive))))
 }
 
@@ -125,28 +121,33 @@ fn no_archive_and_no_kit() {
     }
 }
 
+/// The README's program, on P1 and on a sheet that is refused: a refusal is an error like any other.
 #[test]
 fn another_program_has_it_as_a_dependency() {
     let folder = common::empty_folder("package-caller");
-    let package = package();
-    let manifest = MANIFEST.replace("PACKAGE", package.to_str().expect("a path of text"));
+    let dependency = in_readme("In Rust, with `", "`");
+    let top = common::top().to_str().expect("a path of text");
+    let manifest = MANIFEST.replace("DEPENDENCY", &dependency.replace("...", top));
     fs::create_dir(folder.join("src")).expect("a folder");
     fs::write(folder.join("Cargo.toml"), manifest).expect("a manifest");
-    fs::write(folder.join("src/main.rs"), PROGRAM).expect("a program");
-    fs::copy(
-        common::top().join("examples/p1.sheet"),
-        folder.join("p1.sheet"),
-    )
-    .expect("P1");
-    let mut run = cargo("run", &folder.join("Cargo.toml"), &folder);
-    let output = common::output(run.env(GIVEN, ARCHIVE).current_dir(&folder));
-    let said = String::from_utf8_lossy(&output.stderr);
-    assert_eq!(
-        String::from_utf8_lossy(&output.stdout),
-        "verdict 4, scores [47, 83]\n",
-        "{said}"
-    );
-    // A refusal is an error like any other; its fields are what `main` shows of one.
-    assert_eq!(said, "Error: Refusal { number: 3, row: 2, column: 1 }\n");
-    assert_eq!(output.status.code(), Some(1));
+    fs::write(folder.join("src/main.rs"), in_readme("```rust\n", "```\n")).expect("a program");
+    let mut build = cargo_build(&folder.join("Cargo.toml"), &folder);
+    common::assert_silent(&common::output(build.env(GIVEN, ARCHIVE)), "cargo build");
+    for (sheet, printed, said, status) in [
+        ("p1", "verdict 4, scores [47, 83]\n", "", 0),
+        (
+            "refused",
+            "",
+            "Error: Refusal { number: 6, row: 3, column: 4 }\n",
+            1,
+        ),
+    ] {
+        let sheet = common::top().join(format!("examples/{sheet}.sheet"));
+        fs::copy(sheet, folder.join("p1.sheet")).expect("a sheet");
+        let mut program = Command::new(folder.join("target/release/caller"));
+        let output = common::output(program.current_dir(&folder));
+        assert_eq!(String::from_utf8_lossy(&output.stderr), said);
+        assert_eq!(String::from_utf8_lossy(&output.stdout), printed);
+        assert_eq!(output.status.code(), Some(status));
+    }
 }
