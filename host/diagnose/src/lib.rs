@@ -1,1 +1,3 @@
 //! The desk's command. What it says of a sheet is the library's; only the words are its own.
+
+pub mod words;
