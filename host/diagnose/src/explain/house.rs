@@ -20,8 +20,8 @@ pub fn ends(rows: &[Row], found: &Row) -> Option<String> {
     Some(sentence(
         "ends",
         &[
-            ("a", &a),
-            ("b", &b),
+            ("end a", &a),
+            ("end b", &b),
             ("sum", &(a + b)),
             ("storey", &storey),
             ("area", &area),
