@@ -112,6 +112,11 @@ pub fn lines_of_other_length() -> Vec<Case> {
             "p1.sheet:5: 68 bytes, not 65: 3 spaces at the end. [1 sheet length]"),
         (&["CR at end"], with_end(5, b"\r"),
             "p1.sheet:5: 66 bytes, not 65: a carriage return (CR) before the newline. [1 sheet length]"),
+        // Spaces are not the mistake where the line lacks something else.
+        (&[], [&SHEET[..4 * LINE], b"       4  \n", &SHEET[5 * LINE..]].concat(),
+            "p1.sheet:5: 11 bytes, not 65. [1 sheet length]"),
+        (&[], [&SHEET[..4 * LINE], &SHEET[4 * LINE + 3..5 * LINE - 1], b"    \n", &SHEET[5 * LINE..]].concat(),
+            "p1.sheet:5: 66 bytes, not 65. [1 sheet length]"),
         (&["full width"], full_width,
             "p1.sheet:5: 67 bytes, not 65: a full-width digit. [1 sheet length]"),
         (&["length"], SHEET[1..].to_vec(),
@@ -186,7 +191,7 @@ pub fn fields() -> Vec<Case> {
             "p1.sheet:4: column 8 (unused): \"       x\": a letter. [2 misprint]"),
         // Without its kind a row's columns have no names.
         (&[], with_field(5, 1, b"       x"),
-            "p1.sheet:5: column 1: \"       x\": a letter. [2 misprint]"),
+            "p1.sheet:5: column 1 (kind): \"       x\": a letter. [2 misprint]"),
         (&[], with_field(5, 1, b"       9       x"),
             "p1.sheet:5: column 2: \"       x\": a letter. [2 misprint]"),
     ]

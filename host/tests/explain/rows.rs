@@ -98,7 +98,7 @@ pub fn ranges() -> Vec<Case> {
         (&[], manual(&[(6, 7, 1)]),
             "p1.sheet:6: column 7 (storeys at end b): 1 is not 2; the house row says 2 storeys. [4 out of range]"),
         (&["unused"], changed(&[(4, 8, 5)]),
-            "p1.sheet:4: column 8 (unused): 5, but an unused column has 0. [4 out of range]"),
+            "p1.sheet:4: column 8 (unused): 5 is not 0. [4 out of range]"),
         (&["age"], changed(&[(1, 7, 2)]),
             "p1.sheet:1: column 7 (age): 2, but 0 is due; old sheets had the age here, which the dates row (kind 8) \
              replaces. [4 out of range]"),

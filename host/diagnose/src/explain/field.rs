@@ -18,7 +18,12 @@ pub fn explain(sheet: &[u8], row: u32, column: u32) -> Option<String> {
     let field = fields.get(index)?;
     let why = sentence(why(field)?, &[]);
     let what = sentence("misprint", &[("field", &quoted(field)), ("why", &why)]);
-    Some(of_column(number(&fields[0]), column, what))
+    // The first column of a row is its kind, whichever kind that is.
+    let kind = match index {
+        0 => Some(1),
+        _ => number(&fields[0]),
+    };
+    Some(of_column(kind, column, what))
 }
 
 /// The name of the sentence that says why a field is no number; none where it is one.

@@ -87,21 +87,21 @@ fn length(line: &[u8]) -> String {
     let bytes = line.len();
     let sized =
         |name, why: &str| sentence(name, &[("bytes", &bytes), ("line", &LINE), ("why", &why)]);
-    let text = line.strip_suffix(b"\n");
-    match (text, bytes) {
-        (Some([]), _) => return sentence("empty line", &[]),
-        (None, ..LINE) if bytes == LINE - 1 => return sentence("no newline", &[]),
-        (None, ..LINE) => return sized("cut", ""),
-        _ => {}
-    }
-    let text = text.unwrap_or(line);
+    let text = match line.strip_suffix(b"\n") {
+        Some([]) => return sentence("empty line", &[]),
+        Some(text) => text,
+        None if bytes == LINE - 1 => return sentence("no newline", &[]),
+        None if bytes < LINE => return sized("cut", ""),
+        None => line,
+    };
     let spaces = text.iter().rev().take_while(|&&byte| byte == b' ').count();
-    let why = match spaces {
-        0 if text.ends_with(b"\r") => sentence("CR at end", &[]),
-        0 if has_full_width_digit(text) => sentence("full width", &[]),
-        0 => return sized("length", ""),
-        1 => sentence("1 space", &[]),
-        _ => sentence("spaces", &[("spaces", &spaces)]),
+    // What stands after the last field is the mistake only where the fields before it are whole.
+    let why = match text.len().checked_sub(LINE - 1) {
+        Some(1) if text.ends_with(b"\r") => sentence("CR at end", &[]),
+        Some(1) if spaces == 1 => sentence("1 space", &[]),
+        Some(more) if more == spaces => sentence("spaces", &[("spaces", &spaces)]),
+        _ if has_full_width_digit(text) => sentence("full width", &[]),
+        _ => return sized("length", ""),
     };
     sized("length why", &why)
 }
