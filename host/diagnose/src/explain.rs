@@ -18,11 +18,11 @@ type Row = [u32; ROW];
 /// general sentence of the refusal.
 pub fn explain(file: &str, sheet: &[u8], refusal: Refusal) -> String {
     let number = refusal.number;
-    let (row, what) = match number {
+    let found = match number {
         Refusal::SHEET_LENGTH => lines::explain(sheet),
         _ => mistake(sheet, refusal).map(|what| (refusal.row, what)),
-    }
-    .unwrap_or_else(|| (refusal.row, general(refusal)));
+    };
+    let (row, what) = found.unwrap_or_else(|| (refusal.row, general(refusal)));
     let name = match row {
         0 => "of the sheet",
         _ => "of a row",

@@ -122,20 +122,18 @@ fn where_nothing_is_found_the_sentence_is_general() {
         told(Refusal::OUT_OF_RANGE, 400, 4),
         "p1.sheet:400: column 4: The column holds a number outside its range, or is unused and not 0. [4 out of range]"
     );
+}
+
+/// A refusal that is not the sheet's own still has a line, with its place.
+#[test]
+fn no_refusal_is_left_without_a_line() {
     for number in 0..=13 {
-        for (row, column) in [(0, 0), (1, 0), (5, 2), (12, 9), (13, 1), (400, 400)] {
-            let place = if row == 0 {
-                String::new()
-            } else {
-                format!(":{row}")
-            };
-            let start = format!("p1.sheet{place}: ");
-            let line = told(number, row, column);
-            assert!(
-                line.starts_with(&start) || number == Refusal::SHEET_LENGTH,
-                "{line}"
-            );
+        for (row, column) in [(1, 0), (5, 2), (12, 9), (13, 1), (400, 400)] {
+            let line = explain("p1.sheet", SHEET, Refusal::at(number, row, column));
+            assert!(line.starts_with(&format!("p1.sheet:{row}: ")), "{line}");
         }
+        let line = explain("p1.sheet", SHEET, Refusal::without_place(number));
+        assert!(line.starts_with("p1.sheet: "), "{line}");
     }
 }
 
