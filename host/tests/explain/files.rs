@@ -135,6 +135,9 @@ pub fn lines_of_other_length() -> Vec<Case> {
             "p1.sheet:13: the sheet ends within this line, after 1 of 65 bytes. [1 sheet length]"),
         (&[], [&SHEET[..12 * LINE - 1], b"  "].concat(),
             "p1.sheet:12: 66 bytes, not 65: 2 spaces at the end. [1 sheet length]"),
+        // Lines ran together, and the last is cut, so no field is known to stand in its place.
+        (&[], with_field(5, 9, b"0")[..12 * LINE - 1].to_vec(),
+            "p1.sheet:5: 130 bytes, not 65. [1 sheet length]"),
         // The last line is as much shorter, so the whole has the length of 12 lines.
         (&[], with_end(5, b" ")[..12 * LINE].to_vec(),
             "p1.sheet:5: 66 bytes, not 65: a space at the end. [2 misprint]"),
@@ -176,6 +179,9 @@ pub fn fields() -> Vec<Case> {
             "p1.sheet:1: column 6 (foundation): \"      \\x82Q\": a full-width digit. [2 misprint]"),
         (&["character"], with_field(5, 6, b"   2,000"),
             "p1.sheet:5: column 6 (length): \"   2,000\": a character that is no digit. [2 misprint]"),
+        // One comma does not stand in place of the columns.
+        (&[], with_field(1, 4, b"    1,00"),
+            "p1.sheet:1: column 4 (zone): \"    1,00\": a character that is no digit. [2 misprint]"),
         (&[], with_field(5, 6, b"\t\0\x7f\xff   1"),
             "p1.sheet:5: column 6 (length): \"\\t\\0\\u{7f}\\xff   1\": a character that is no digit. [2 misprint]"),
         (&[], with_field(5, 6, "     \u{a0}1".as_bytes()),
