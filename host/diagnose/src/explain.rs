@@ -1,5 +1,5 @@
-//! The line that finds the mistake in a refused sheet. Its number, row and column are the library's; the sheet is looked at
-//! only for the words.
+//! The line that finds the mistake in a refused sheet. Its number, row and column are the library's; the sheet is looked
+//! at only for the words.
 
 mod dates;
 mod field;
@@ -14,8 +14,8 @@ use crate::words::{self, sentence};
 
 type Row = [u32; ROW];
 
-/// The line for a sheet that the library refuses, without a newline. Where nothing more can be said of the sheet, it has the
-/// general sentence of the refusal.
+/// The line for a sheet that the library refuses, without a newline. Where nothing more can be said of the sheet, it has
+/// the general sentence of the refusal.
 pub fn explain(file: &str, sheet: &[u8], refusal: Refusal) -> String {
     let number = refusal.number;
     let found = match number {

@@ -1,5 +1,5 @@
-//! The line that finds the mistake in a refused sheet: on P1 with one mistake, each in its exact words, and on random damaged
-//! sheets.
+//! The line that finds the mistake in a refused sheet: on P1 with one mistake, each in its exact words, and on random
+//! damaged sheets.
 
 #[path = "../common/mod.rs"]
 mod common;

@@ -1,5 +1,5 @@
-//! words.txt against the library: every column's range by tables that are scored and refused, and that nothing is missing;
-//! and against docs/REFUSALS.md, cell for cell.
+//! words.txt against the library: every column's range by tables that are scored and refused, and that nothing is
+//! missing; and against docs/REFUSALS.md, cell for cell, and the parts of docs/SHEET.md.
 
 #[path = "../common/mod.rs"]
 mod common;
@@ -65,6 +65,20 @@ fn every_part_and_month_is_there() {
         assert!(Day::from_digits(first + days + 1).is_none(), "{name}");
     }
     assert_eq!([0, 13].map(words::month), [None, None]);
+}
+
+/// The page has a comma after the thousands.
+#[test]
+fn parts_are_those_of_the_page() {
+    let page = fs::read_to_string(common::top().join("docs/SHEET.md")).expect("it is there");
+    let page = page.replace('\n', " ").replace("1,024", "1024");
+    let page = page.replace("2,048", "2048").replace("4,096", "4096");
+    let parts = words::parts().into_iter();
+    let items: Vec<String> = parts
+        .map(|part| format!("{} {}", part.name, part.number))
+        .collect();
+    let all = format!("A set is the sum of its items: {}.", items.join(", "));
+    assert!(page.contains(&all), "{all}");
 }
 
 /// So no line is passed over for a misspelt start, and none hides another.

@@ -67,8 +67,8 @@ fn separators(sheet: &[u8]) -> Option<&'static str> {
     Some(name)
 }
 
-/// The first line that is not 65 bytes, and why. Lines that ran together for want of a newline are no such line where they
-/// are whole: what stands in the newline's place is then the mistake.
+/// The first line that is not 65 bytes, and why. Lines that ran together for want of a newline are no such line where
+/// they are whole: what stands in the newline's place is then the mistake.
 fn odd_line(sheet: &[u8]) -> Option<(u32, String)> {
     let (row, line) = (1..)
         .zip(lines(sheet))
