@@ -66,16 +66,20 @@ fn made() -> Result<PathBuf, Box<dyn Error>> {
         .ancestors()
         .nth(2)
         .ok_or("this package stands in the repository's host/")?;
+    let tool = top.join("tools/archive");
+    if !tool.exists() {
+        let tool = tool.display();
+        return Err(
+            format!("set {GIVEN} to a built archive: there is no {tool} to write one").into(),
+        );
+    }
     for source in sources(top)? {
         println!("cargo::rerun-if-changed={}", source.display());
     }
-    let tool = top.join("tools/archive");
-    let output = Command::new(&tool).arg(TARGET).output().map_err(|error| {
-        format!(
-            "set {GIVEN} to a built archive; {} does not run: {error}",
-            tool.display()
-        )
-    })?;
+    let output = Command::new(&tool)
+        .arg(TARGET)
+        .output()
+        .map_err(|error| format!("{} does not run: {error}", tool.display()))?;
     let said = String::from_utf8_lossy(&output.stderr);
     if !output.status.success() {
         return Err(format!("no archive could be built, and {GIVEN} names none:\n{said}").into());

@@ -39,7 +39,7 @@ fn compile_with(header: &str, standard: &str, folder: &Path) -> (PathBuf, Output
 
 /// The version that the header has to have is this package's, as it is of all.
 fn run(program: &Path) -> Output {
-    common::output(Command::new(program).arg(env!("CARGO_PKG_VERSION")))
+    common::output(Command::new(program).arg(girderbasil::VERSION))
 }
 
 /// Compiles tests/header.c with a header that may differ from the library, and runs it: whether it saw no difference.

@@ -84,7 +84,7 @@ fn build(name: &str, archive: Option<&str>) -> Output {
 /// Asserts that a build failed with these lines alone of the package's own, and without a panic.
 fn assert_refused(output: &Output, expected: &[&str]) {
     let said = String::from_utf8_lossy(&output.stderr);
-    let prefix = format!("error: girderbasil@{}: ", env!("CARGO_PKG_VERSION"));
+    let prefix = format!("error: girderbasil@{}: ", girderbasil::VERSION);
     let own = said.lines().filter_map(|line| line.strip_prefix(&*prefix));
     assert_eq!(own.collect::<Vec<_>>(), expected, "{said}");
     assert!(!said.contains("panicked"), "{said}");
@@ -95,6 +95,34 @@ fn assert_refused(output: &Output, expected: &[&str]) {
 fn the_archive_that_is_given_is_linked() {
     let output = build("package-given", Some(ARCHIVE));
     common::assert_silent(&output, "cargo build");
+}
+
+/// The package's folder is all of it, so it can be taken elsewhere without the repository.
+#[test]
+fn the_folder_alone_is_a_package() {
+    let outside = common::Outside::new("package-alone");
+    let mut copying = Command::new("cp");
+    let copied = common::output(copying.arg("-R").arg(package()).arg(&*outside));
+    common::assert_silent(&copied, "a copy");
+    let mut build = cargo_build(&outside.join("girderbasil/Cargo.toml"), &outside);
+    common::assert_silent(&common::output(build.env(GIVEN, ARCHIVE)), "cargo build");
+    let folder = common::empty_folder("package-alone");
+    let mut build = cargo_build(&outside.join("girderbasil/Cargo.toml"), &folder);
+    let output = common::output(&mut build);
+    let tool = outside
+        .parent()
+        .expect("a folder for what is passing")
+        .join("tools/archive");
+    let said = format!(
+        "set GIRDERBASIL_ARCHIVE to a built archive: there is no {} to write one",
+        tool.display()
+    );
+    assert_refused(&output, &[&said]);
+}
+
+#[test]
+fn versions_are_the_same() {
+    assert_eq!(girderbasil::VERSION, env!("CARGO_PKG_VERSION"));
 }
 
 #[test]

@@ -29,6 +29,8 @@ mod site;
 pub use answers::{Record, Refusal};
 pub use site::{Site, Totals};
 
+/// The version of this package and of the library that belongs to it.
+pub const VERSION: &str = env!("CARGO_PKG_VERSION");
 /// The bytes of a sheet's line: eight fields, then a line feed.
 pub const LINE: usize = 65;
 /// The characters of a field.

@@ -6,8 +6,10 @@ pub mod header;
 pub mod lent;
 pub mod remainders;
 
+use std::env;
 use std::fs;
 use std::io::{ErrorKind, Write};
+use std::ops::Deref;
 use std::path::{Path, PathBuf};
 use std::process::{Command, Output, Stdio};
 use std::sync::OnceLock;
@@ -34,6 +36,34 @@ pub fn folder(name: &str) -> PathBuf {
 pub fn empty_folder(name: &str) -> PathBuf {
     fs::remove_dir_all(folder(name)).expect("it can be removed");
     folder(name)
+}
+
+/// A folder outside the repository, in which `rt ci` takes no link and no crate but its own, and cargo takes each package for
+/// one of the workspace. It is gone when the test ends.
+pub struct Outside(PathBuf);
+
+impl Outside {
+    pub fn new(name: &str) -> Self {
+        let name = format!("girderbasil-{}-{name}", std::process::id());
+        let folder = env::temp_dir().join(name);
+        fs::create_dir(&folder).expect("a folder outside the repository");
+        Self(folder)
+    }
+}
+
+impl Deref for Outside {
+    type Target = Path;
+
+    fn deref(&self) -> &Path {
+        &self.0
+    }
+}
+
+impl Drop for Outside {
+    fn drop(&mut self) {
+        // A test that fails should tell its own reason.
+        let _ = fs::remove_dir_all(&self.0);
+    }
 }
 
 /// A compiler of C or C++ to which every warning is an error.

@@ -1,13 +1,11 @@
 //! What `tools/archive` writes, and when it writes nothing.
 
-use std::env;
 use std::fs;
-use std::ops::Deref;
 use std::os::unix::fs::{PermissionsExt, symlink};
 use std::path::{Path, PathBuf};
-use std::process::{self, Command, Output};
+use std::process::{Command, Output};
 
-use crate::common::header;
+use crate::common::{Outside, header};
 use crate::{TARGETS, X86_64, built, common, kit_tool, kit_tools, module, page};
 
 /// What a library that is linked from an archive may ask others for: the C library's copying and filling of memory, which
@@ -19,33 +17,6 @@ const STEP: u32 = 3_072;
 
 fn text(output: &[u8]) -> String {
     String::from_utf8_lossy(output).into_owned()
-}
-
-/// A folder outside the repository, in which `rt ci` takes no link and no crate but its own. It is gone when the test ends.
-struct Outside(PathBuf);
-
-impl Outside {
-    fn new(name: &str) -> Self {
-        let name = format!("girderbasil-{}-{name}", process::id());
-        let folder = env::temp_dir().join(name);
-        fs::create_dir(&folder).expect("a folder outside the repository");
-        Self(folder)
-    }
-}
-
-impl Deref for Outside {
-    type Target = Path;
-
-    fn deref(&self) -> &Path {
-        &self.0
-    }
-}
-
-impl Drop for Outside {
-    fn drop(&mut self) {
-        // A test that fails should tell its own reason.
-        let _ = fs::remove_dir_all(&self.0);
-    }
 }
 
 /// Links all of a target's archive into a shared library, as a phone loads it, by LLVM's linker for its system.
