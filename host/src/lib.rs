@@ -3,6 +3,7 @@
 //! [`model`] is documents 01 and 02 written down a second time, in plain Rust that shares no code with the library; the
 //! tests compare the two, and the benchmark times them.
 
+pub mod command;
 pub mod days;
 pub mod model;
 pub mod random;
