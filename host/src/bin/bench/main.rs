@@ -1,5 +1,7 @@
 //! Times the proved library beside the model: `cargo run --release --bin bench`. It never passes or fails.
 
+mod command;
+
 use std::hint::black_box;
 use std::time::{Duration, Instant};
 
@@ -55,6 +57,7 @@ fn main() {
     print_times("Sheet to report", &lines, time_report);
     print_times("Table to record", &lines, time_record);
     print_changes();
+    command::print_pile();
 }
 
 fn lines() -> Vec<Line> {
