@@ -35,8 +35,10 @@ fn link() -> Result<(), Box<dyn Error>> {
     // change of its source, so cargo neither proves again nor links again without need.
     let out = PathBuf::from(env::var("OUT_DIR")?);
     let copy = out.join(ARCHIVE);
-    fs::copy(&archive, &copy)
+    // Read whole first: the archive that is given may be this copy itself.
+    let bytes = fs::read(&archive)
         .map_err(|error| format!("cannot read the archive {}: {error}", archive.display()))?;
+    fs::write(&copy, bytes)?;
     println!("cargo::metadata=archive={}", copy.display());
     println!("cargo::rustc-link-search=native={}", out.display());
     println!("cargo::rustc-link-lib=static=girderbasil");

@@ -18,18 +18,14 @@ fn top() -> &'static Path {
         .expect("host/ stands in the repository")
 }
 
-/// Has cargo build it. Its folder is its own: the archive that the tests were linked with stands in theirs, and may be the
-/// one that cargo is told to copy.
+/// Has the launcher build it, so that later runs find it built and have nothing to say.
 fn built() -> PathBuf {
-    let folder = top().join("target/command");
-    let output = Command::new("cargo")
-        .args(["build", "--release", "--offline", "--quiet"])
-        .args(["--package", "girderbasil-diagnose", "--target-dir"])
-        .arg(&folder)
-        .current_dir(top().join("host"))
+    let launcher = top().join("diagnose");
+    let output = Command::new(&launcher)
+        .arg("--version")
         .output()
-        .expect("cargo runs");
+        .expect("the launcher runs");
     let said = String::from_utf8_lossy(&output.stderr);
     assert!(output.status.success(), "{said}");
-    folder.join("release/diagnose")
+    launcher
 }

@@ -3,10 +3,8 @@
 use girderbasil::{LINE, MOST_ROWS, MOST_WALLS};
 
 use super::field::has_full_width_digit;
+use crate::input::MOST_BYTES;
 use crate::words::sentence;
-
-/// The command reads no further, as the scoring program does, so of a sheet of this length the rest is not known.
-const MOST_READ: usize = 65_536;
 
 /// The columns of a row have as many separators between them.
 const SEPARATORS: usize = 7;
@@ -16,7 +14,8 @@ pub fn explain(sheet: &[u8]) -> Option<(u32, String)> {
     if sheet.is_empty() {
         return Some((0, sentence("empty", &[])));
     }
-    if sheet.len() >= MOST_READ {
+    // No more was read of it, so the rest is not known.
+    if sheet.len() >= MOST_BYTES {
         return Some((0, too_long()));
     }
     let whole = whole(sheet).map(|what| (0, what));
