@@ -4,6 +4,7 @@
 mod common;
 
 mod csv;
+mod examples;
 mod explain;
 mod lines;
 mod misuse;
