@@ -17,15 +17,29 @@ const MOST_SHOWN: usize = 20;
 /// and what.
 pub fn write_sheet(text: &[u8], sheet: &mut Vec<u8>) -> Result<(), String> {
     sheet.clear();
+    if is_utf_16(text) {
+        return Err(String::from(": is in UTF-16; save it as UTF-8"));
+    }
+    if text.contains(&0) {
+        return Err(String::from(": is no plain text"));
+    }
     if text.len() > MOST_BYTES {
         return Err(format!(": more than {} bytes", grouped(MOST_BYTES)));
     }
-    let text = text.strip_prefix(BYTE_ORDER_MARK).unwrap_or(text);
+    let unmarked = text.strip_prefix(BYTE_ORDER_MARK).unwrap_or(text);
     // What is no text is no number either, and is shown as far as it can be.
-    let text = String::from_utf8_lossy(text);
-    let mut lines: Vec<&str> = text.lines().collect();
+    let unmarked = String::from_utf8_lossy(unmarked);
+    let mut lines: Vec<&str> = unmarked.lines().collect();
     while lines.last().is_some_and(|line| line.is_empty()) {
         lines.pop();
+    }
+    match lines.first() {
+        Some(line) if is_of_sheet(line) => {
+            return Err(String::from(": is a sheet already: leave --csv out"));
+        }
+        // Nothing at all is an empty sheet, which the library refuses. This is not empty, though a sheet of it would be.
+        None if !text.is_empty() => return Err(String::from(": no numbers")),
+        _ => {}
     }
     sheet.reserve(LINE * lines.len());
     for (number, line) in (1..).zip(lines) {
@@ -34,21 +48,42 @@ pub fn write_sheet(text: &[u8], sheet: &mut Vec<u8>) -> Result<(), String> {
     Ok(())
 }
 
+/// By its mark, or where it has none by each other byte of the first two characters: it is 0 where they are of ASCII.
+fn is_utf_16(text: &[u8]) -> bool {
+    match text {
+        // UTF-32 begins with the same mark.
+        [0xff, 0xfe, 0, 0, ..] => false,
+        [0xff, 0xfe, ..] | [0xfe, 0xff, ..] => true,
+        [1..=0xff, 0, 1..=0xff, 0, ..] | [0, 1..=0xff, 0, 1..=0xff, ..] => true,
+        _ => false,
+    }
+}
+
+/// Whether a line is one that sheets have: as long, of digits and spaces.
+fn is_of_sheet(line: &str) -> bool {
+    let is_known = |byte: u8| byte == b' ' || byte.is_ascii_digit();
+    line.len() == LINE - 1 && line.bytes().all(is_known) && !line.trim_start().is_empty()
+}
+
 fn write_line(line: &str, sheet: &mut Vec<u8>) -> Result<(), String> {
     if line.is_empty() {
         return Err(String::from("an empty line among others"));
     }
+    if line.contains('\r') {
+        return Err(String::from("CR alone ends no line; save with LF or CR LF"));
+    }
     // The first separator is the line's. Another kind is then seen as a part of a number, where it is none.
     let separator = line
         .chars()
-        .find(|character| SEPARATORS.contains(character));
-    let fields: Vec<&str> = line.split(separator.unwrap_or(',')).collect();
+        .find(|character| SEPARATORS.contains(character))
+        .ok_or("no commas, semicolons or tabs")?;
+    let fields: Vec<&str> = line.split(separator).collect();
     for (number, field) in (1..=ROW).zip(&fields) {
         let digits = field.trim_matches(' ');
         if !is_number(digits) {
             let field = shown(field);
             return Err(format!(
-                "field {number}: {field} is not a whole number from 0 to {MOST}"
+                "field {number}: {field} is not a whole number in digits alone, without leading zeros, up to {MOST}"
             ));
         }
         sheet.resize(sheet.len() + FIELD - digits.len(), b' ');
@@ -57,7 +92,6 @@ fn write_line(line: &str, sheet: &mut Vec<u8>) -> Result<(), String> {
     sheet.push(b'\n');
     match fields.len() {
         ROW => Ok(()),
-        1 => Err(format!("1 field, not {ROW}")),
         count => Err(format!("{count} fields, not {ROW}")),
     }
 }
