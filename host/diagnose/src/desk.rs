@@ -5,6 +5,7 @@ use std::io;
 use crate::csv;
 use crate::explain::explain;
 use crate::input::{MOST_BYTES, Source};
+use crate::name::width;
 use crate::options::{Form, Options};
 use crate::outcome::{self, Outcome};
 use crate::output::{Output, reason};
@@ -36,7 +37,7 @@ struct Desk<'a> {
 
 impl<'a> Desk<'a> {
     fn open(options: &'a Options) -> io::Result<Self> {
-        let widths = options.sources.iter().map(|it| summary::width(&it.name()));
+        let widths = options.sources.iter().map(|it| width(&it.name()));
         Ok(Self {
             options,
             output: Output::open(options.sources.len())?,

@@ -1,10 +1,11 @@
 //! Where sheets come from: files and standard input.
 
-use std::borrow::Cow;
 use std::ffi::OsString;
 use std::fs::File;
 use std::io::{self, Read};
 use std::os::fd::AsFd;
+
+use crate::name::shown;
 
 /// A sheet is cut there, as `crates/diagnose` does. What is left still has the length of no sheet.
 pub const MOST_BYTES: usize = 65_536;
@@ -25,10 +26,10 @@ impl Source {
     }
 
     /// As it is shown.
-    pub fn name(&self) -> Cow<'_, str> {
+    pub fn name(&self) -> String {
         match self {
-            Self::StandardInput => Cow::Borrowed("standard input"),
-            Self::File(path) => path.to_string_lossy(),
+            Self::StandardInput => String::from("standard input"),
+            Self::File(path) => shown(path),
         }
     }
 

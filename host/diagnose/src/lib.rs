@@ -5,6 +5,7 @@ mod desk;
 pub mod explain;
 mod input;
 mod lines;
+mod name;
 mod numbers;
 mod options;
 mod outcome;

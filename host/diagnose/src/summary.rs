@@ -1,5 +1,6 @@
 //! The summary: a line a file, and the totals.
 
+use crate::name::width;
 use crate::numbers::decimal;
 use crate::outcome::{Outcome, place};
 
@@ -54,22 +55,4 @@ pub fn line(name: &str, columns: usize, outcome: &Outcome) -> String {
         Outcome::NotRead(_) => String::from("can't be read"),
     };
     format!("{name}{:padding$}  {outcome}\n", "")
-}
-
-/// How many columns of a terminal a text takes: two for each character of Japanese, Chinese or Korean, and none for a mark
-/// that is set on the character before it, as in names from a Mac.
-pub fn width(text: &str) -> usize {
-    let columns = text.chars().map(|character| match character {
-        '\u{300}'..='\u{36f}' | '\u{3099}' | '\u{309a}' => 0,
-        '\u{1100}'..='\u{115f}'
-        | '\u{2e80}'..='\u{a4cf}'
-        | '\u{ac00}'..='\u{d7a3}'
-        | '\u{f900}'..='\u{faff}'
-        | '\u{fe30}'..='\u{fe6f}'
-        | '\u{ff00}'..='\u{ff60}'
-        | '\u{ffe0}'..='\u{ffe6}'
-        | '\u{20000}'..='\u{3fffd}' => 2,
-        _ => 1,
-    });
-    columns.sum()
 }

@@ -8,6 +8,7 @@ mod examples;
 mod explain;
 mod lines;
 mod misuse;
+mod names;
 mod no_table;
 mod pile;
 mod progress;

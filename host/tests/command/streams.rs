@@ -14,7 +14,6 @@ fn a_file_that_cannot_be_read_is_told_with_the_reason() {
     fs::create_dir(folder.join("folder")).expect("a folder");
     for (file, reason) in [
         ("nosuch", "No such file or directory"),
-        ("", "No such file or directory"),
         ("nosuch/p1.sheet", "No such file or directory"),
         ("folder", "Is a directory"),
         ("socket", "No such device or address"),
@@ -25,6 +24,20 @@ fn a_file_that_cannot_be_read_is_told_with_the_reason() {
         let run = diagnose_in(&folder, &["--explain", "--csv", "--sheet", file]);
         assert_eq!(run, gave(2, "", &said));
     }
+}
+
+/// Its name would not be seen otherwise.
+#[test]
+fn an_empty_name_is_shown_in_quotes() {
+    let said = "diagnose: \"\": can't be read: No such file or directory\n";
+    assert_eq!(diagnose(&[""], b""), gave(2, "", said));
+    let printed = concat!(
+        "\"\"                 can't be read\n",
+        "examples/p1.sheet  verdict 4  0.47\n",
+        "2 sheets: 1 scored, 0 refused, 1 not read\n",
+    );
+    let arguments = ["--summary", "", "examples/p1.sheet"];
+    assert_eq!(diagnose(&arguments, b""), gave(2, printed, said));
 }
 
 #[test]

@@ -36,15 +36,26 @@ fn several_sheets_of_which_one_is_not_read() {
 
 #[test]
 fn names_are_padded_by_the_columns_that_they_take() {
-    // The last is 邸が as a Mac writes it: か, and the mark that makes it が.
-    let names = ["田中邸.sheet", "ab.sheet", "邸か\u{3099}.sheet"];
-    let folder = folder_with("columns", &names.map(|name| (name, SHEET)));
+    // The third is 邸が as a Mac writes it: か, and the mark that makes it が. The fourth has emoji alone, the fifth characters
+    // that have no width, and the sixth one that is written out.
     let printed = concat!(
         "田中邸.sheet  verdict 4  0.47\n",
         "ab.sheet      verdict 4  0.47\n",
         "邸か\u{3099}.sheet    verdict 4  0.47\n",
-        "3 sheets: 3 scored, 0 refused\n",
+        "\u{1f300}🏠\u{1faff}.sheet  verdict 4  0.47\n",
+        "a\u{200b}\u{200f}\u{fe00}\u{fe0f}b.sheet      verdict 4  0.47\n",
+        "a\\nb.sheet    verdict 4  0.47\n",
+        "6 sheets: 6 scored, 0 refused\n",
     );
+    let names = [
+        "田中邸.sheet",
+        "ab.sheet",
+        "邸か\u{3099}.sheet",
+        "\u{1f300}🏠\u{1faff}.sheet",
+        "a\u{200b}\u{200f}\u{fe00}\u{fe0f}b.sheet",
+        "a\nb.sheet",
+    ];
+    let folder = folder_with("columns", &names.map(|name| (name, SHEET)));
     let arguments = [&["--summary"][..], &names].concat();
     assert_eq!(diagnose_in(&folder, &arguments), gave(0, printed, ""));
 }
