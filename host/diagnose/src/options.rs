@@ -3,6 +3,7 @@
 use std::ffi::{OsStr, OsString};
 
 use crate::input::Source;
+use crate::name::shown;
 
 pub const USAGE: &str = "usage: diagnose [OPTION..] [FILE..]";
 
@@ -97,7 +98,10 @@ fn is_option(argument: &OsStr) -> bool {
 impl Options {
     fn choose_form(&mut self, argument: &OsStr) -> Result<(), String> {
         let Some((name, form)) = FORMS.into_iter().find(|(name, _)| argument == *name) else {
-            return Err(format!("there is no option {}", argument.to_string_lossy()));
+            return Err(format!(
+                "there is no option {}; -- ends the options",
+                shown(argument)
+            ));
         };
         let mut chosen = FORMS.into_iter().filter(|(_, form)| *form == self.form);
         match chosen.next() {

@@ -41,9 +41,23 @@ fn the_version_is_printed() {
 #[test]
 fn what_is_wrong_is_said_beside_the_usage() {
     for (arguments, what) in [
-        (&["--explained"][..], "there is no option --explained"),
-        (&["--summary=no"], "there is no option --summary=no"),
-        (&["-x"], "there is no option -x"),
+        (
+            &["--explained"][..],
+            "there is no option --explained; -- ends the options",
+        ),
+        (
+            &["--summary=no"],
+            "there is no option --summary=no; -- ends the options",
+        ),
+        (
+            &["-dash.sheet"],
+            "there is no option -dash.sheet; -- ends the options",
+        ),
+        (
+            &["-\n\u{1b}[1m"],
+            r"there is no option -\n\u{1b}[1m; -- ends the options",
+        ),
+        (&["-x"], "there is no option -x; -- ends the options"),
         (
             &["--report", "--csv", "--summary"],
             "--report and --summary exclude each other",
@@ -70,7 +84,10 @@ fn what_is_wrong_is_said_beside_the_usage() {
             "standard input can be read only once",
         ),
         (&["-", "--", "-"], "standard input can be read only once"),
-        (&["examples/p1.sheet", "--no"], "there is no option --no"),
+        (
+            &["examples/p1.sheet", "--no"],
+            "there is no option --no; -- ends the options",
+        ),
     ] {
         let said = format!("diagnose: {what}\nusage: diagnose [OPTION..] [FILE..]\n");
         assert_eq!(diagnose(arguments, SHEET), gave(2, "", &said));
