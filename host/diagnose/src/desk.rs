@@ -53,7 +53,7 @@ impl<'a> Desk<'a> {
         let name = source.name();
         let (outcome, proved) = match self.read(source) {
             Ok(()) => Outcome::of(&girderbasil::output(&self.sheet)),
-            Err(what) => (Outcome::NotRead(what), Vec::new()),
+            Err(outcome) => (outcome, Vec::new()),
         };
         self.output.print(&self.printed(&name, &outcome, proved))?;
         if let Some(line) = self.said(&name, &outcome) {
@@ -64,17 +64,17 @@ impl<'a> Desk<'a> {
         Ok(())
     }
 
-    /// Reads a file's sheet, or says why it can't be read, as it goes on behind the file's name.
-    fn read(&mut self, source: &Source) -> Result<(), String> {
+    /// Reads a file's sheet. Where there is none it answers what came of the file.
+    fn read(&mut self, source: &Source) -> Result<(), Outcome> {
         let bytes = match self.options.csv {
             true => &mut self.text,
             false => &mut self.sheet,
         };
         source
             .read(bytes)
-            .map_err(|error| format!(": can't be read: {}", reason(&error)))?;
+            .map_err(|error| Outcome::NotRead(format!(": can't be read: {}", reason(&error))))?;
         if self.options.csv {
-            return csv::write_sheet(&self.text, &mut self.sheet);
+            return csv::write_sheet(&self.text, &mut self.sheet).map_err(Outcome::NoTable);
         }
         self.sheet.truncate(MOST_BYTES);
         Ok(())
@@ -84,11 +84,11 @@ impl<'a> Desk<'a> {
     fn printed(&self, name: &str, outcome: &Outcome, proved: Vec<u8>) -> Vec<u8> {
         match (self.options.form, outcome) {
             (Form::Summary, _) => summary::line(name, self.name_width, outcome).into_bytes(),
-            (_, Outcome::NotRead(_)) => Vec::new(),
             (Form::Lines, _) => proved,
+            (Form::Sheet, Outcome::NotRead(_) | Outcome::NoTable(_)) => Vec::new(),
             (Form::Sheet, _) => self.sheet.clone(),
             (Form::Report, _) => {
-                let between = if self.totals.any_read() { "\n" } else { "" };
+                let between = if self.totals.files() > 0 { "\n" } else { "" };
                 let report = report(name, &self.sheet, outcome, &proved);
                 (between.to_owned() + &report).into_bytes()
             }
@@ -104,7 +104,9 @@ impl<'a> Desk<'a> {
             Form::Summary | Form::Report => false,
         };
         match outcome {
-            Outcome::NotRead(what) => Some(format!("diagnose: {name}{what}")),
+            Outcome::NotRead(what) | Outcome::NoTable(what) => {
+                Some(format!("diagnose: {name}{what}"))
+            }
             Outcome::Scored(verdict) if self.options.explain => Some(verdict.explained(name)),
             Outcome::Refused(refusal) if self.options.explain => {
                 Some(explain(name, &self.sheet, *refusal))

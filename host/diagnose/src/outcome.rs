@@ -9,8 +9,10 @@ use crate::words;
 pub enum Outcome {
     Scored(Verdict),
     Refused(Refusal),
-    /// Why it was not, as it goes on behind the file's name.
+    /// Why the file can't be read, as it goes on behind its name.
     NotRead(String),
+    /// Why a file that was read is no table, and so has no sheet; in the same form.
+    NoTable(String),
 }
 
 pub struct Verdict {
@@ -34,7 +36,7 @@ impl Outcome {
         match self {
             Self::Scored(_) => 0,
             Self::Refused(_) => 1,
-            Self::NotRead(_) => 2,
+            Self::NotRead(_) | Self::NoTable(_) => 2,
         }
     }
 }

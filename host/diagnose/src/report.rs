@@ -10,12 +10,14 @@ use crate::words;
 
 const TITLE: &str = "Earthquake diagnosis (general diagnosis, method 1)";
 
-/// The report on a file's sheet, which was read.
+/// The report on a file's sheet, or what says that it has none.
 pub fn report(name: &str, sheet: &[u8], outcome: &Outcome, proved: &[u8]) -> String {
     let body = match outcome {
         Outcome::Scored(verdict) => scored(proved, verdict),
         Outcome::Refused(refusal) => explain(name, sheet, *refusal) + "\n",
-        Outcome::NotRead(_) => String::new(),
+        Outcome::NotRead(what) | Outcome::NoTable(what) => {
+            return format!("{TITLE}: {name}\n\n{name}{what}\n");
+        }
     };
     let proved = String::from_utf8_lossy(proved);
     format!("{TITLE}: {name}\n\n{body}\n{proved}")

@@ -17,17 +17,17 @@ impl Totals {
         *match outcome {
             Outcome::Scored(_) => &mut self.scored,
             Outcome::Refused(_) => &mut self.refused,
-            Outcome::NotRead(_) => &mut self.not_read,
+            Outcome::NotRead(_) | Outcome::NoTable(_) => &mut self.not_read,
         } += 1;
     }
 
-    pub fn any_read(&self) -> bool {
-        self.scored + self.refused > 0
+    pub fn files(&self) -> usize {
+        self.scored + self.refused + self.not_read
     }
 
     /// The last line.
     pub fn line(&self) -> String {
-        let files = self.scored + self.refused + self.not_read;
+        let files = self.files();
         let sheets = if files == 1 { "sheet" } else { "sheets" };
         let not_read = match self.not_read {
             0 => String::new(),
@@ -53,6 +53,7 @@ pub fn line(name: &str, columns: usize, outcome: &Outcome) -> String {
         }
         Outcome::Refused(refusal) => format!("refused {}  {}", refusal.number, place(*refusal)),
         Outcome::NotRead(_) => String::from("can't be read"),
+        Outcome::NoTable(_) => String::from("no table"),
     };
     format!("{name}{:padding$}  {outcome}\n", "")
 }

@@ -175,7 +175,7 @@ fn a_text_that_is_not_taken_counts_as_not_read() {
         ],
     );
     let printed = concat!(
-        "bad.csv  can't be read\n",
+        "bad.csv  no table\n",
         "p1.csv   verdict 4  0.47\n",
         "nosuch   can't be read\n",
         "3 sheets: 1 scored, 0 refused, 2 not read\n",
@@ -186,7 +186,13 @@ fn a_text_that_is_not_taken_counts_as_not_read() {
     );
     let arguments = ["--csv", "--summary", "bad.csv", "p1.csv", "nosuch"];
     assert_eq!(diagnose_in(&folder, &arguments), gave(2, printed, said));
+    // A pile of reports that is printed has it too.
+    let heading = "Earthquake diagnosis (general diagnosis, method 1): bad.csv\n\n";
+    let printed = format!("{heading}bad.csv:11: 7 fields, not 8\n");
+    let run = diagnose_in(&folder, &["--report", "--csv", "bad.csv"]);
+    let said = "diagnose: bad.csv:11: 7 fields, not 8\n";
+    assert_eq!(run, gave(2, &printed, said));
     // What was made of it before the mistake is not printed.
     let run = diagnose_in(&folder, &["--sheet", "--csv", "bad.csv"]);
-    assert_eq!(run, gave(2, "", "diagnose: bad.csv:11: 7 fields, not 8\n"));
+    assert_eq!(run, gave(2, "", said));
 }

@@ -124,10 +124,15 @@ fn the_summary_counts_them() {
 #[test]
 fn the_report_of_each_is_that_of_it_alone() {
     let pile = pile("pile-report");
-    let read = pile.files.iter().filter(|(_, printed)| printed.is_some());
-    let reports: Vec<String> = read
+    let files = pile.files.iter();
+    let reports: Vec<String> = files
         .map(|(name, _)| diagnose_in(&pile.folder, &["--report", name]).printed)
         .collect();
+    assert!(
+        reports
+            .iter()
+            .all(|report| report.starts_with("Earthquake diagnosis "))
+    );
     let run = pile.diagnose(&["--report"]);
     assert_eq!(run, gave(2, &reports.join("\n"), &pile.said(false)));
 }

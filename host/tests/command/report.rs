@@ -81,12 +81,22 @@ fn a_refused_sheets_has_the_mistake_and_the_refusals_line() {
     assert_eq!(report(&[name], b""), gave(1, &printed, ""));
 }
 
+/// A file that can't be read has its place too, so that a pile that is printed is complete.
 #[test]
 fn an_empty_line_stands_between_two() {
-    let files = ["nosuch", "examples/p1.sheet", "nosuch", "-"];
-    let printed = [p1_report("examples/p1.sheet"), p1_report("standard input")].join("\n");
-    let said = "diagnose: nosuch: can't be read: No such file or directory\n".repeat(2);
-    assert_eq!(report(&files, SHEET), gave(2, &printed, &said));
+    let files = ["nosuch", "examples/p1.sheet", "examples", "-"];
+    let printed = [
+        format!("{HEADING}nosuch\n\nnosuch: can't be read: No such file or directory\n"),
+        p1_report("examples/p1.sheet"),
+        format!("{HEADING}examples\n\nexamples: can't be read: Is a directory\n"),
+        p1_report("standard input"),
+    ]
+    .join("\n");
+    let said = concat!(
+        "diagnose: nosuch: can't be read: No such file or directory\n",
+        "diagnose: examples: can't be read: Is a directory\n",
+    );
+    assert_eq!(report(&files, SHEET), gave(2, &printed, said));
 }
 
 /// The numbers in words and kN are those of the proved lines below them.
