@@ -6,6 +6,7 @@ use std::io::{self, Read};
 use std::os::fd::AsFd;
 
 use crate::name::shown;
+use crate::waiting::Waiting;
 
 /// A sheet is cut there, as `crates/diagnose` does. What is left still has the length of no sheet.
 pub const MOST_BYTES: usize = 65_536;
@@ -36,7 +37,7 @@ impl Source {
     /// Reads it into bytes that are used again: one byte over the most, where it is longer, so that this can be seen.
     pub fn read(&self, bytes: &mut Vec<u8>) -> io::Result<()> {
         bytes.clear();
-        self.open()?
+        Waiting(self.open()?)
             .take(MOST_BYTES as u64 + 1)
             .read_to_end(bytes)?;
         Ok(())

@@ -14,6 +14,7 @@ mod progress;
 mod report;
 mod run;
 mod summary;
+mod waiting;
 pub mod words;
 
 pub use run::run;

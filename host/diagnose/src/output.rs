@@ -5,6 +5,7 @@ use std::io::{self, Write};
 use std::os::fd::AsFd;
 
 use crate::progress::Progress;
+use crate::waiting::Waiting;
 
 /// As much is kept before it is written.
 const KEPT: usize = 1 << 16;
@@ -12,7 +13,7 @@ const KEPT: usize = 1 << 16;
 /// Standard output, with the line of progress that may stand on the same terminal. Each error is one of standard output.
 pub struct Output {
     /// Written as a file, since Rust's own takes a descriptor that can't be written for one that took everything.
-    standard: File,
+    standard: Waiting<File>,
     /// Whole lines that are still to be written.
     kept: Vec<u8>,
     progress: Progress,
@@ -22,7 +23,7 @@ impl Output {
     /// For so many sheets.
     pub fn open(sheets: usize) -> io::Result<Self> {
         Ok(Self {
-            standard: io::stdout().as_fd().try_clone_to_owned()?.into(),
+            standard: Waiting(io::stdout().as_fd().try_clone_to_owned()?.into()),
             kept: Vec::new(),
             progress: Progress::new(sheets),
         })
@@ -60,7 +61,7 @@ impl Output {
 
 /// Writes to standard error. Where it can't be written there is nobody to tell.
 pub fn say(text: &str) {
-    let _ = io::stderr().write_all(text.as_bytes());
+    let _ = Waiting(io::stderr()).write_all(text.as_bytes());
 }
 
 /// An error's reason in words alone: Rust puts the system's number behind them.

@@ -10,6 +10,7 @@ mod lines;
 mod misuse;
 mod names;
 mod no_table;
+mod non_blocking;
 mod pile;
 mod progress;
 mod report;
