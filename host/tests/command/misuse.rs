@@ -18,7 +18,8 @@ FILE is -, it reads standard input. Without an option it prints the reports, one
   --          ends the options
 
 Exit status, the greatest that applies: 0 all scored; 1 some refused; 2 a file or standard input
-can't be read, or misuse; 3 the command can't be built or run, or what it prints can't be written.
+can't be read, or with --csv is no table, or misuse; 3 the command can't be built or run, or what
+it prints can't be written.
 ";
 
 #[test]
