@@ -7,25 +7,8 @@ use crate::name::shown;
 
 pub const USAGE: &str = "usage: diagnose [OPTION..] [FILE..]";
 
-pub const HELP: &str = "\
-usage: diagnose [OPTION..] [FILE..]
-
-Scores survey sheets of Japanese wooden houses (general diagnosis, method 1). Without FILE, or where
-FILE is -, it reads standard input. Without an option it prints the reports, one after the other.
-
-  --summary   prints a line a file and a line of totals instead
-  --report    prints reports in words and kN instead
-  --sheet     with --csv and one file, prints the sheet instead
-  --explain   says on standard error what each verdict means and what each refused sheet has wrong
-  --csv       reads eight whole numbers a line, between commas, semicolons or tabs
-  -h, --help  prints this
-  --version   prints the version
-  --          ends the options
-
-Exit status, the greatest that applies: 0 all scored; 1 some refused; 2 a file or standard input
-can't be read, or with --csv is no table, or misuse; 3 the command can't be built or run, or what
-it prints can't be written.
-";
+/// In a file of its own, since the launcher prints it before anything is built.
+pub const HELP: &str = include_str!("help.txt");
 
 pub const VERSION: &str = concat!("diagnose ", env!("CARGO_PKG_VERSION"), "\n");
 
