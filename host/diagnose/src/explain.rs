@@ -14,6 +14,13 @@ use crate::words::{self, sentence};
 
 type Row = [u32; ROW];
 
+const HOUSE: u32 = 1;
+const STOREY: u32 = 2;
+const ENDS: u32 = 3;
+const WALL: u32 = 4;
+const PARTS: u32 = 5;
+const DATES: u32 = 8;
+
 /// The line for a sheet that the library refuses, without a newline. Where nothing more can be said of the sheet, it has
 /// the general sentence of the refusal.
 pub fn explain(file: &str, sheet: &[u8], refusal: Refusal) -> String {
@@ -58,7 +65,7 @@ fn mistake(sheet: &[u8], refusal: Refusal) -> Option<String> {
     let found = rows.get(place)?;
     let what = match number {
         Refusal::TOO_MANY_WALLS => return house::too_many_walls(&rows, row),
-        Refusal::ENDS_EXCEED_STOREY => return house::ends(&rows, found),
+        Refusal::ENDS_EXCEED_STOREY => house::ends(&rows, found, column),
         Refusal::OUT_OF_RANGE => range::explain(&rows, found, column),
         Refusal::MARK_ON_ABSENT_PART => Some(house::absent_parts(found)),
         Refusal::NO_PARTS => Some(sentence("no parts", &[])),

@@ -24,7 +24,7 @@ pub struct Verdict {
 pub struct Column {
     pub name: &'static str,
     pub range: Range,
-    /// Empty where the number counts nothing, or whole things.
+    /// How the number is to be read, as it goes on behind its range; empty where it counts whole things, or nothing.
     pub unit: &'static str,
     /// What a wall that is an opening has here, where that is settled.
     pub opening: Option<u32>,

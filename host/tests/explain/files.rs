@@ -145,7 +145,7 @@ pub fn lines_of_other_length() -> Vec<Case> {
             "p1.sheet:1: 64 bytes, not 65. [2 misprint]"),
         // A field before it comes first.
         (&[], [&with_field(4, 8, b"       x")[..5 * LINE - 1], &with_end(5, b" ")[5 * LINE - 1..12 * LINE]].concat(),
-            "p1.sheet:4: column 8 (unused): \"       x\": a letter. [2 misprint]"),
+            "p1.sheet:4: column 8 (unused in an ends row): \"       x\": a letter. [2 misprint]"),
     ]
 }
 
@@ -157,7 +157,7 @@ pub fn fields() -> Vec<Case> {
         (&["leading zero"], with_field(5, 6, b"   02000"),
             "p1.sheet:5: column 6 (length): \"   02000\": a leading zero. [2 misprint]"),
         (&[], with_field(2, 8, b"      00"),
-            "p1.sheet:2: column 8 (unused): \"      00\": a leading zero. [2 misprint]"),
+            "p1.sheet:2: column 8 (unused in a storey row): \"      00\": a leading zero. [2 misprint]"),
         (&["sign"], with_field(5, 6, b"   +2000"),
             "p1.sheet:5: column 6 (length): \"   +2000\": a sign. [2 misprint]"),
         (&[], with_field(5, 6, b"   -2000"),
@@ -194,7 +194,7 @@ pub fn fields() -> Vec<Case> {
             "p1.sheet:12: column 9: \" \" in the newline's place. [2 misprint]"),
         // The lines ran together, and one of them has a field that comes first.
         (&[], [&with_field(4, 8, b"       x")[..5 * LINE - 1], &with_field(5, 9, b"0")[5 * LINE - 1..]].concat(),
-            "p1.sheet:4: column 8 (unused): \"       x\": a letter. [2 misprint]"),
+            "p1.sheet:4: column 8 (unused in an ends row): \"       x\": a letter. [2 misprint]"),
         // Without its kind a row's columns have no names.
         (&[], with_field(5, 1, b"       x"),
             "p1.sheet:5: column 1 (kind): \"       x\": a letter. [2 misprint]"),

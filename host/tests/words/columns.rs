@@ -65,7 +65,6 @@ fn assert_allowed(storeys: u32, row: usize, column: usize, number: u32) {
             ))
         }
         (3, 4 | 5, 50_000) => Some(Refusal::at(Refusal::ENDS_EXCEED_STOREY, row, 4)),
-        (5, 2, 0) => Some(Refusal::at(Refusal::NO_PARTS, row, 2)),
         _ => None,
     };
     assert_eq!(
@@ -121,8 +120,10 @@ fn check_column(storeys: u32, row: usize, column: usize) {
     }
     for number in refused {
         let rows = house_with(storeys, row, column, number);
-        match words.range {
-            Range::Due => assert_refused(&rows, Refusal::ROW_OUT_OF_ORDER, row, 1),
+        match (words.range, own[0], column, number) {
+            (Range::Due, ..) => assert_refused(&rows, Refusal::ROW_OUT_OF_ORDER, row, 1),
+            // A set may be empty, but not that of the parts that are present.
+            (_, 5, 2, 0) => assert_refused(&rows, Refusal::NO_PARTS, row, 2),
             _ => assert_refused(&rows, Refusal::OUT_OF_RANGE, row, column),
         }
     }

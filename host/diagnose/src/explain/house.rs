@@ -14,7 +14,7 @@ pub fn too_many_walls(rows: &[Row], row: u32) -> Option<String> {
 }
 
 /// Ends that exceed their storey, whose row is the one after the house's for storey 1, and so on.
-pub fn ends(rows: &[Row], found: &Row) -> Option<String> {
+pub fn ends(rows: &[Row], found: &Row, column: u32) -> Option<String> {
     let [_, storey, _, a, b, ..] = *found;
     let [_, _, area, ..] = *rows.get(storey as usize)?;
     Some(sentence(
@@ -26,6 +26,7 @@ pub fn ends(rows: &[Row], found: &Row) -> Option<String> {
             ("storey", &storey),
             ("area", &area),
             ("line", &(storey + 1)),
+            ("unit", &words::column(found[0], column)?.unit),
         ],
     ))
 }

@@ -1,14 +1,9 @@
 //! Refusal 3: which row is due, and which is there.
 
-use super::{Row, storeys};
-use crate::words::{self, sentence};
+use girderbasil::MOST_WALLS;
 
-const HOUSE: u32 = 1;
-const STOREY: u32 = 2;
-const ENDS: u32 = 3;
-const WALL: u32 = 4;
-const PARTS: u32 = 5;
-const DATES: u32 = 8;
+use super::{DATES, ENDS, HOUSE, PARTS, Row, STOREY, WALL, storeys};
+use crate::words::{self, sentence};
 
 /// What is wrong at a place, counted from 0, whose rows before have no fault.
 pub fn explain(rows: &[Row], place: usize) -> Option<String> {
@@ -39,9 +34,11 @@ pub fn explain(rows: &[Row], place: usize) -> Option<String> {
     let walls = walls.take_while(|row| row[0] == WALL).count();
     match place.checked_sub(first_wall + walls) {
         None => falls(rows, place),
+        // Another wall would be one too many.
+        Some(0) if walls == MOST_WALLS => due("due", PARTS, name(PARTS), found, count),
         Some(0) => due("due after walls", PARTS, name(PARTS), found, count),
         Some(1) => due("due", DATES, name(DATES), found, count),
-        Some(_) => due("none due", 0, "", found, count),
+        Some(_) => Some(sentence("none due", &[("kind", found?.first()?)])),
     }
 }
 

@@ -1,40 +1,43 @@
 //! Refusal 4: a number outside its column's range.
 
-use super::{Row, list, storeys};
+use super::{Row, WALL, list, storeys};
 use crate::words::{self, Bound, Range, sentence};
 
-const WALL: u32 = 4;
 /// The column of a wall's type.
 const TYPE: u32 = 8;
 
 /// What a column may hold in place of what it has.
 pub fn explain(rows: &[Row], row: &Row, column: u32) -> Option<String> {
     let words = words::column(row[0], column)?;
-    let found = row.get((column as usize).checked_sub(1)?)?;
+    let found = *row.get((column as usize).checked_sub(1)?)?;
     if let (Some(allowed), Some(opening)) = (words.opening, opening(row)) {
         return Some(sentence(
             "opening",
-            &[("found", found), ("type", &opening), ("allowed", &allowed)],
+            &[("found", &found), ("type", &opening), ("allowed", &allowed)],
         ));
     }
-    match words.range {
+    let what = match words.range {
         Range::Between(least, greatest) => {
             let house = rows.first()?[1];
             let ends = [least, greatest].map(|bound| number(bound, row, house));
-            let by_house = greatest == Bound::HouseStoreys;
-            Some(between(*found, ends, words.unit, by_house.then_some(house)))
+            let name = name([least, greatest], ends, words.unit);
+            between(name, found, ends, words.unit, house)
         }
         Range::Choice => {
             let allowed = allowed(row[0], column);
-            Some(sentence(
-                "choice",
-                &[("found", found), ("allowed", &allowed)],
-            ))
+            sentence("choice", &[("found", &found), ("allowed", &allowed)])
         }
-        Range::Unused => Some(sentence("unused", &[("found", found)])),
-        Range::Age => Some(sentence("age", &[("found", found)])),
-        Range::Due => None,
+        Range::Unused => sentence("unused", &[("found", &found)]),
+        Range::Age => sentence("age", &[("found", &found)]),
+        Range::Due => return None,
+    };
+    // The mistake may be the wall's type.
+    if words.opening == Some(found) {
+        let places: [(&str, &dyn ToString); 3] =
+            [("what", &what), ("found", &found), ("type", row.last()?)];
+        return Some(sentence("no opening", &places));
     }
+    Some(what)
 }
 
 /// The name of a wall's type where it is an opening.
@@ -54,14 +57,20 @@ fn number(bound: Bound, row: &Row, house: u32) -> u32 {
     }
 }
 
-/// The sentence for a range, with the house's storeys where they are its end.
-fn between(found: u32, [least, greatest]: [u32; 2], unit: &str, house: Option<u32>) -> String {
-    let name = match house {
-        Some(_) if least == greatest => "one by house",
-        Some(_) => "range by house",
-        None if unit.is_empty() => "range",
-        None => "unit",
-    };
+/// The name of the sentence for a range, which says where its ends come from.
+fn name(bounds: [Bound; 2], [least, greatest]: [u32; 2], unit: &str) -> &'static str {
+    match (bounds, least == greatest) {
+        ([Bound::OwnStorey, _], true) => "one by storeys",
+        ([Bound::OwnStorey, _], false) => "range by storeys",
+        ([_, Bound::HouseStoreys], true) => "one by house",
+        ([_, Bound::HouseStoreys], false) => "range by house",
+        _ if unit.is_empty() => "range",
+        _ => "unit",
+    }
+}
+
+fn between(name: &str, found: u32, ends: [u32; 2], unit: &str, house: u32) -> String {
+    let [least, greatest] = ends;
     sentence(
         name,
         &[
@@ -69,7 +78,7 @@ fn between(found: u32, [least, greatest]: [u32; 2], unit: &str, house: Option<u3
             ("least", &least),
             ("greatest", &greatest),
             ("unit", &unit),
-            ("storeys", &storeys(house.unwrap_or_default())),
+            ("storeys", &storeys(house)),
         ],
     )
 }
