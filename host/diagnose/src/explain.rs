@@ -1,9 +1,11 @@
 //! The line that finds the mistake in a refused sheet. Its number, row and column are the library's; the sheet is looked
 //! at only for the words.
 
+mod characters;
 mod dates;
 mod field;
 mod house;
+mod length;
 mod lines;
 mod order;
 mod range;
@@ -73,7 +75,7 @@ fn mistake(sheet: &[u8], refusal: Refusal) -> Option<String> {
         Refusal::DATES_OUT_OF_ORDER => dates::order(found, column),
         _ => None,
     };
-    Some(of_column(Some(found[0]), column, what?))
+    Some(of_column(&column_named(Some(found[0]), column), &what?))
 }
 
 /// The rows of a sheet's table; none where reading refuses the sheet.
@@ -84,14 +86,16 @@ fn rows(sheet: &[u8]) -> Option<Vec<Row>> {
     Some(all[..rows].to_vec())
 }
 
-/// What is wrong with the number in a column, by the column's name where the kind of the row is known.
-fn of_column(kind: Option<u32>, column: u32, what: String) -> String {
+/// What is wrong with the number in a column.
+fn of_column(column: &str, what: &str) -> String {
+    sentence("of a column", &[("column", &column), ("what", &what)])
+}
+
+/// A column by its number, and its name where the kind of the row is known.
+fn column_named(kind: Option<u32>, column: u32) -> String {
     match kind.and_then(|kind| words::column(kind, column)) {
-        Some(named) => sentence(
-            "of a column",
-            &[("column", &column), ("name", &named.name), ("what", &what)],
-        ),
-        None => sentence("of no column", &[("column", &column), ("what", &what)]),
+        Some(named) => sentence("column", &[("column", &column), ("name", &named.name)]),
+        None => sentence("no name", &[("column", &column)]),
     }
 }
 
@@ -99,7 +103,7 @@ fn general(refusal: Refusal) -> String {
     let when = words::when(refusal.number).to_owned();
     match refusal.column {
         0 => when,
-        column => of_column(None, column, when),
+        column => of_column(&column_named(None, column), &when),
     }
 }
 

@@ -4,7 +4,9 @@
 #[path = "../common/mod.rs"]
 mod common;
 
+mod fields;
 mod files;
+mod lengths;
 mod rows;
 
 use girderbasil::{FIELD, LINE, Refusal};
@@ -22,8 +24,9 @@ type Case = (&'static [&'static str], Vec<u8>, &'static str);
 fn cases() -> Vec<Case> {
     [
         files::whole(),
-        files::lines_of_other_length(),
-        files::fields(),
+        lengths::ends(),
+        lengths::columns(),
+        fields::fields(),
         rows::order(),
         rows::ranges(),
         rows::house(),
@@ -141,7 +144,27 @@ fn no_refusal_is_left_without_a_line() {
 #[test]
 fn a_name_may_have_braces() {
     let line = explain("{row}.sheet", b"", refusal(b""));
-    assert_eq!(line, "{row}.sheet: the file is empty. [1 sheet length]");
+    assert_eq!(line, "{row}.sheet: it is empty. [1 sheet length]");
+}
+
+/// One byte too many or too few within a column is told with that column. At a column's ends it may as well be its
+/// neighbour's.
+#[test]
+fn a_byte_more_or_less_is_found() {
+    for place in (0..SHEET.len()).filter(|place| (2..FIELD - 1).contains(&(place % LINE % FIELD))) {
+        let (row, column) = (place / LINE + 1, place % LINE / FIELD + 1);
+        for byte in [None, Some(b' '), Some(b'0'), Some(b'3')] {
+            let mut sheet = SHEET.to_vec();
+            match byte {
+                None => drop(sheet.remove(place)),
+                Some(byte) => sheet.insert(place, byte),
+            }
+            let line = explain("p1.sheet", &sheet, refusal(&sheet));
+            let bytes = if byte.is_none() { LINE - 1 } else { LINE + 1 };
+            let start = format!("p1.sheet:{row}: {bytes} bytes, not 65: column {column} (");
+            assert!(line.starts_with(&start), "{byte:?} at {place}: {line}");
+        }
+    }
 }
 
 #[test]

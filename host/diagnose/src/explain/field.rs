@@ -2,7 +2,7 @@
 
 use girderbasil::{FIELD, LINE, ROW};
 
-use super::of_column;
+use super::{characters, column_named, of_column};
 use crate::words::sentence;
 
 /// What is wrong with a field; at column 9, what stands in the newline's place.
@@ -12,64 +12,64 @@ pub fn explain(sheet: &[u8], row: u32, column: u32) -> Option<String> {
     let (fields, last) = line.as_chunks::<FIELD>();
     let index = (column as usize).checked_sub(1)?;
     if index == ROW {
-        let what = sentence("line end", &[("field", &quoted(last))]);
-        return Some(of_column(None, column, what));
+        return Some(sentence(
+            "line end",
+            &[("row", &ROW), ("column", &column), ("field", &quoted(last))],
+        ));
     }
     let field = fields.get(index)?;
-    let why = sentence(why(field)?, &[]);
-    let what = sentence("misprint", &[("field", &quoted(field)), ("why", &why)]);
-    // The first column of a row is its kind, whichever kind that is.
-    let kind = match index {
-        0 => Some(1),
-        _ => number(&fields[0]),
+    let what = match why(field)? {
+        "blank" => sentence("blank", &[]),
+        name => sentence(
+            "misprint",
+            &[("field", &quoted(field)), ("why", &sentence(name, &[]))],
+        ),
     };
-    Some(of_column(kind, column, what))
+    Some(of_column(&column_named(kind(line, column), column), &what))
+}
+
+/// The kind of a line's row, by its first field. Column 1 is the kind, whichever that is.
+pub fn kind(line: &[u8], column: u32) -> Option<u32> {
+    match column {
+        1 => Some(1),
+        _ => number(line.get(..FIELD)?),
+    }
+}
+
+/// The number in a field; none where it has none.
+pub fn number(field: &[u8]) -> Option<u32> {
+    let text = str::from_utf8(field).ok()?.trim_start_matches(' ');
+    (why(field).is_none() && field.len() == FIELD).then(|| text.parse().ok())?
 }
 
 /// The name of the sentence that says why a field is no number; none where it is one.
 fn why(field: &[u8]) -> Option<&'static str> {
-    let has = |test: fn(&u8) -> bool| field.iter().any(test);
     let text = field.trim_ascii();
-    if !has(|&byte| byte != b' ') {
+    if field.iter().all(|&byte| byte == b' ') {
         Some("blank")
-    } else if has_full_width_digit(field) {
-        Some("full width")
-    } else if has(u8::is_ascii_alphabetic) {
-        Some("letter")
-    } else if has(|byte| b"+-".contains(byte)) {
-        Some("sign")
-    } else if has(|&byte| byte == b'.') {
-        Some("point")
-    } else if has(|&byte| byte != b' ' && !byte.is_ascii_digit()) {
-        Some("character")
-    } else if field.ends_with(b" ") || text.contains(&b' ') {
+    } else if let Some(odd) = characters::odd(field) {
+        Some(odd)
+    } else if text.contains(&b' ') {
+        Some("space between")
+    } else if field.ends_with(b" ") {
         Some("space after")
     } else {
         (text.len() > 1 && text.starts_with(b"0")).then_some("leading zero")
     }
 }
 
-/// Whether a digit stands there that is as wide as a Japanese character, in UTF-8 or in Shift JIS.
-pub fn has_full_width_digit(text: &[u8]) -> bool {
-    let utf_8 = |bytes: &[u8]| matches!(bytes, [0xef, 0xbc, 0x90..=0x99]);
-    let shift_jis = |bytes: &[u8]| matches!(bytes, [0x82, 0x4f..=0x58]);
-    text.windows(3).any(utf_8) || text.windows(2).any(shift_jis)
-}
-
-/// The kind of a row, by its first field.
-fn number(field: &[u8]) -> Option<u32> {
-    str::from_utf8(field).ok()?.trim_start().parse().ok()
-}
-
-/// Bytes in quotes, with those that can't be printed made visible.
-fn quoted(bytes: &[u8]) -> String {
-    let chunks = bytes.utf8_chunks();
-    let visible = |chunk: std::str::Utf8Chunk| {
-        format!(
-            "{}{}",
-            chunk.valid().escape_debug(),
-            chunk.invalid().escape_ascii()
-        )
+/// Bytes in quotes, with those that can't be printed made visible; of more than a field has, the first.
+pub fn quoted(bytes: &[u8]) -> String {
+    if let Some((first, [_, ..])) = bytes.split_at_checked(FIELD) {
+        return quoted(first) + "..";
+    }
+    let visible = |character: char| match character {
+        '"' | '\'' => character.to_string(),
+        _ => character.escape_debug().to_string(),
     };
-    format!("\"{}\"", chunks.map(visible).collect::<String>())
+    let chunks = bytes.utf8_chunks().map(|chunk| {
+        let valid: String = chunk.valid().chars().map(visible).collect();
+        format!("{valid}{}", chunk.invalid().escape_ascii())
+    });
+    format!("\"{}\"", chunks.collect::<String>())
 }

@@ -1,28 +1,29 @@
 //! Refusals 1 and 2, by the bytes: files that are no sheet, and lines that are not 65 bytes.
 
-use girderbasil::{LINE, MOST_ROWS, MOST_WALLS};
+use girderbasil::{FIELD, LINE, MOST_ROWS, MOST_WALLS};
 
-use super::field::has_full_width_digit;
+use super::{DATES, field, length};
+use crate::csv;
 use crate::input::MOST_BYTES;
 use crate::words::sentence;
 
 /// The columns of a row have as many separators between them.
 const SEPARATORS: usize = 7;
+/// A text may have that many control bytes by mistake. Other files have more: UTF-16 a NUL for each digit.
+const MOST_CONTROLS: usize = 8;
 
 /// Why a sheet has no length that a sheet has, and its line where one shows it, or 0.
 pub fn explain(sheet: &[u8]) -> Option<(u32, String)> {
     if sheet.is_empty() {
         return Some((0, sentence("empty", &[])));
     }
-    // No more was read of it, so the rest is not known.
-    if sheet.len() >= MOST_BYTES {
-        return Some((0, too_long()));
+    if let Some(what) = whole(sheet) {
+        return Some((0, what));
     }
-    let whole = whole(sheet).map(|what| (0, what));
-    whole.or_else(|| odd_line(sheet)).or_else(|| {
-        let is_too_long = sheet.len() > MOST_ROWS * LINE;
-        is_too_long.then(|| (0, too_long()))
-    })
+    // No more was read of it, so the end of its last line is not known.
+    let is_cut = sheet.len() >= MOST_BYTES;
+    let odd = if is_cut { None } else { odd_line(sheet) };
+    odd.or_else(|| (sheet.len() > MOST_ROWS * LINE).then(|| (0, too_long())))
 }
 
 /// The same of a sheet whose length happens to be one that sheets have, where reading it ended in a row.
@@ -34,20 +35,31 @@ pub fn in_line(sheet: &[u8], row: u32) -> Option<String> {
 }
 
 fn too_long() -> String {
-    sentence("too long", &[("most", &MOST_ROWS), ("walls", &MOST_WALLS)])
+    sentence(
+        "too long",
+        &[
+            ("bytes", &(MOST_ROWS * LINE)),
+            ("most", &MOST_ROWS),
+            ("walls", &MOST_WALLS),
+        ],
+    )
 }
 
 /// What is wrong with all lines alike.
 fn whole(sheet: &[u8]) -> Option<String> {
-    if sheet.starts_with(b"\xff\xfe") || sheet.starts_with(b"\xfe\xff") {
-        return Some(sentence("UTF-16", &[]));
+    if let Some(name) = no_text(sheet) {
+        return Some(sentence(name, &[]));
     }
     if !sheet.contains(&b'\n') && sheet.contains(&b'\r') {
         return Some(sentence("CR", &[]));
     }
     if let Some(separators) = separators(sheet) {
+        let name = match csv::write_sheet(sheet, &mut Vec::new()) {
+            Ok(()) => "separators",
+            Err(_) => "no table",
+        };
         let separators = sentence(separators, &[]);
-        return Some(sentence("separators", &[("separators", &separators)]));
+        return Some(sentence(name, &[("separators", &separators)]));
     }
     if sheet.starts_with(b"\xef\xbb\xbf") {
         return Some(sentence("mark", &[]));
@@ -55,6 +67,16 @@ fn whole(sheet: &[u8]) -> Option<String> {
     let mut ended = lines(sheet).filter_map(|line| line.strip_suffix(b"\n"));
     let all_with_return = sheet.contains(&b'\n') && ended.all(|line| line.ends_with(b"\r"));
     all_with_return.then(|| sentence("CR LF", &[]))
+}
+
+/// The name of the sentence for a file whose bytes are no text, or text of another kind.
+fn no_text(sheet: &[u8]) -> Option<&'static str> {
+    let is_utf_32 = sheet.starts_with(b"\xff\xfe\0\0");
+    if !is_utf_32 && (sheet.starts_with(b"\xff\xfe") || sheet.starts_with(b"\xfe\xff")) {
+        return Some("UTF-16");
+    }
+    let is_control = |byte: &&u8| byte.is_ascii_control() && !b"\t\n\r".contains(byte);
+    (sheet.iter().filter(is_control).count() > MOST_CONTROLS).then_some("no text")
 }
 
 /// What stands between the numbers of the first line in place of spaces.
@@ -69,38 +91,28 @@ fn separators(sheet: &[u8]) -> Option<&'static str> {
 /// The first line that is not 65 bytes, and why. Lines that ran together for want of a newline are no such line where
 /// they are whole: what stands in the newline's place is then the mistake.
 fn odd_line(sheet: &[u8]) -> Option<(u32, String)> {
-    let (row, line) = (1..)
-        .zip(lines(sheet))
+    let (index, line) = lines(sheet)
+        .enumerate()
         .find(|(_, line)| line.len() != LINE)?;
-    let is_whole = line.len().is_multiple_of(LINE) && sheet.len().is_multiple_of(LINE);
-    (!is_whole).then(|| (row, length(line)))
+    if line.len().is_multiple_of(LINE) && sheet.len().is_multiple_of(LINE) {
+        return None;
+    }
+    let before = &sheet[..index * LINE];
+    let what = after_sheet(before, line).unwrap_or_else(|| length::explain(line));
+    Some((index as u32 + 1, what))
+}
+
+/// A few bytes that follow a whole sheet, whose last row is that of the dates.
+fn after_sheet(before: &[u8], rest: &[u8]) -> Option<String> {
+    let last = before.as_chunks::<LINE>().0.last()?;
+    let is_whole = field::number(&last[..FIELD]) == Some(DATES);
+    let is_little = rest.len() < FIELD && !rest.iter().any(u8::is_ascii_digit);
+    let is_line = rest.ends_with(b"\n");
+    (is_whole && is_little && !is_line)
+        .then(|| sentence("after", &[("rest", &field::quoted(rest))]))
 }
 
 /// The lines of a sheet, each with its newline.
 fn lines(sheet: &[u8]) -> impl Iterator<Item = &[u8]> {
     sheet.split_inclusive(|&byte| byte == b'\n')
-}
-
-/// Why a line has another length.
-fn length(line: &[u8]) -> String {
-    let bytes = line.len();
-    let sized =
-        |name, why: &str| sentence(name, &[("bytes", &bytes), ("line", &LINE), ("why", &why)]);
-    let text = match line.strip_suffix(b"\n") {
-        Some([]) => return sentence("empty line", &[]),
-        Some(text) => text,
-        None if bytes == LINE - 1 => return sentence("no newline", &[]),
-        None if bytes < LINE => return sized("cut", ""),
-        None => line,
-    };
-    let spaces = text.iter().rev().take_while(|&&byte| byte == b' ').count();
-    // What stands after the last field is the mistake only where the fields before it are whole.
-    let why = match text.len().checked_sub(LINE - 1) {
-        Some(1) if text.ends_with(b"\r") => sentence("CR at end", &[]),
-        Some(1) if spaces == 1 => sentence("1 space", &[]),
-        Some(more) if more == spaces => sentence("spaces", &[("spaces", &spaces)]),
-        _ if has_full_width_digit(text) => sentence("full width", &[]),
-        _ => return sized("length", ""),
-    };
-    sized("length why", &why)
 }
