@@ -46,12 +46,8 @@ fn why(text: &[u8], has_return: bool) -> String {
     if is_two_rows(text) {
         return sentence("two lines", &[]);
     }
-    if let Some(name) = characters::odd(text) {
-        return sentence(name, &[]);
-    }
     if let Some(column) = shifted(text) {
-        let kind = field::kind(text, column);
-        return sentence("shifted", &[("column", &column_named(kind, column))]);
+        return in_column(text, column);
     }
     match text.as_chunks::<FIELD>() {
         (fields, []) => sentence("columns", &[("columns", &fields.len()), ("row", &ROW)]),
@@ -59,6 +55,22 @@ fn why(text: &[u8], has_return: bool) -> String {
             "beyond",
             &[("rest", &field::quoted(&text[TEXT..])), ("row", &ROW)],
         ),
+    }
+}
+
+/// What is wrong in the first column that does not end in its place.
+fn in_column(text: &[u8], column: u32) -> String {
+    let named = column_named(field::kind(text, column), column);
+    // A number that is too long goes on in the next column.
+    let start = (column as usize - 1) * FIELD;
+    let near = &text[start..text.len().min(start + 2 * FIELD)];
+    // Characters before it there are none, and one of several bytes shows only in the whole.
+    match characters::odd(near).and_then(|_| characters::odd(text)) {
+        Some(name) => sentence(
+            "in column",
+            &[("what", &sentence(name, &[])), ("column", &named)],
+        ),
+        None => sentence("shifted", &[("column", &named)]),
     }
 }
 
