@@ -46,10 +46,19 @@ enum {
     GIRDERBASIL_NO_SUCH_WALL = 12
 };
 
+/* A function that the header has itself is inline where the language, or else the compiler, has a word for that. */
+#if defined(__cplusplus) || (defined(__STDC_VERSION__) && __STDC_VERSION__ >= 199901L)
+#define girderbasil_inline inline
+#elif defined(__GNUC__) || defined(_MSC_VER)
+#define girderbasil_inline __inline
+#else
+#define girderbasil_inline
+#endif
+
 /* The trade's words for an answer's number, those of docs/REFUSALS.md; `accepted` for 0, and `unknown` for a number
  * that no answer has. It is the header's own, and not in the archive.
  */
-static inline const char *girderbasil_refusal_words(uint32_t number)
+static girderbasil_inline const char *girderbasil_refusal_words(uint32_t number)
 {
     static const char *const words[] = {
         "accepted",
@@ -68,6 +77,7 @@ static inline const char *girderbasil_refusal_words(uint32_t number)
     };
     return number < sizeof words / sizeof words[0] ? words[number] : "unknown";
 }
+#undef girderbasil_inline
 
 /* The bytes of a line, the numbers of a row; the most walls of a house; and the most rows and bytes that are
  * ever needed. The longest sheet has the house, three storeys, six lines of ends, the walls, the parts and the

@@ -9,11 +9,39 @@ use std::fs;
 use std::path::{Path, PathBuf};
 use std::process::{Command, Output};
 
-use common::header::{HEADER, functions, inline_functions, words};
+use common::header::{HEADER, OWN, functions, inline_functions, words};
 
 const PROGRAM: &str = include_str!("header.c");
 
 const VERSION: &str = "GIRDERBASIL_VERSION";
+
+/// Two files of one program, of C89 as much as of C++, that each include the header and call what is its own.
+const UNITS: [(&str, &str); 2] = [
+    (
+        "main.c",
+        r#"
+#include <stdio.h>
+#include "girderbasil.h"
+const char *words_elsewhere(uint32_t number);
+int main(void)
+{
+    printf("%s, %s\n", girderbasil_refusal_words(6), words_elsewhere(13));
+    return 0;
+}
+"#,
+    ),
+    (
+        "elsewhere.c",
+        r#"
+#include "girderbasil.h"
+const char *words_elsewhere(uint32_t number);
+const char *words_elsewhere(uint32_t number)
+{
+    return girderbasil_refusal_words(number);
+}
+"#,
+    ),
+];
 
 /// The numbers that the header names. Of the words left out one keeps it from being included twice, and one is a text.
 fn names() -> Vec<&'static str> {
@@ -34,6 +62,22 @@ fn compile_with(header: &str, standard: &str, folder: &Path) -> (PathBuf, Output
     let source = common::top().join("host/tests/header.c");
     let program = folder.join("header");
     let output = common::compile(standard, folder, &source, &program);
+    (program, output)
+}
+
+/// Compiles the two files with a header, as a standard.
+fn compile_units(header: &str, standard: &str) -> (PathBuf, Output) {
+    let folder = common::empty_folder("header-units");
+    fs::write(folder.join("girderbasil.h"), header).expect("the header is written");
+    let (name, language) = common::language(standard);
+    let mut compiler = common::compiler(name, standard, &folder);
+    compiler.args(["-Wconversion", "-x", language]);
+    for (file, text) in UNITS {
+        fs::write(folder.join(file), text).expect("a file of the program");
+        compiler.arg(folder.join(file));
+    }
+    let program = folder.join("units");
+    let output = common::output(compiler.arg("-o").arg(&program));
     (program, output)
 }
 
@@ -64,6 +108,32 @@ fn every_name_means_what_the_library_does() {
         let run = run(&program);
         assert_eq!(String::from_utf8_lossy(&run.stdout), "", "as {standard}");
         assert_eq!(run.status.code(), Some(0), "as {standard}");
+    }
+}
+
+/// A function of the header's own is in each file that includes it, under no name that another would see.
+#[test]
+fn two_files_of_one_program_include_it() {
+    for standard in ["c89", "c99", "c11", "c++98", "c++11"] {
+        let (program, output) = compile_units(HEADER, standard);
+        common::assert_silent(&output, standard);
+        let run = common::output(&mut Command::new(program));
+        assert_eq!(
+            String::from_utf8_lossy(&run.stdout),
+            "ends exceed storey, unknown\n"
+        );
+        assert_eq!(run.status.code(), Some(0));
+        // In C++ a function that is inline may be in both.
+        let mut others = vec![""];
+        if !standard.starts_with("c++") {
+            others.push("girderbasil_inline ");
+        }
+        for other in others {
+            let (_, output) = compile_units(&HEADER.replace(OWN, other), standard);
+            let complaints = String::from_utf8_lossy(&output.stderr);
+            assert!(!output.status.success(), "{other}as {standard}");
+            assert!(complaints.contains("girderbasil_refusal_words"));
+        }
     }
 }
 

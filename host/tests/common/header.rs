@@ -15,15 +15,16 @@ pub fn words(text: &'static str, wanted: fn(&str) -> bool) -> Vec<&'static str> 
 
 /// The functions that the header declares, which are the library's.
 pub fn functions() -> Vec<&'static str> {
-    named_functions(|line| !line.starts_with(INLINE))
+    named_functions(|line| !line.starts_with(OWN))
 }
 
 /// The functions that the header has itself.
 pub fn inline_functions() -> Vec<&'static str> {
-    named_functions(|line| line.starts_with(INLINE))
+    named_functions(|line| line.starts_with(OWN))
 }
 
-const INLINE: &str = "static inline ";
+/// What a function of the header's own begins with.
+pub const OWN: &str = "static girderbasil_inline ";
 
 /// Words that an opening bracket follows, on lines of a kind.
 fn named_functions(wanted: fn(&str) -> bool) -> Vec<&'static str> {

@@ -76,13 +76,18 @@ pub fn compiler(name: &str, standard: &str, include: &Path) -> Command {
     command
 }
 
-/// Compiles a program of C, or of C++ where the standard is one of C++, and links it with the archive.
-pub fn compile(standard: &str, include: &Path, source: &Path, program: &Path) -> Output {
-    let (name, language) = if standard.starts_with("c++") {
+/// The compiler for a standard, and its name for the language.
+pub fn language(standard: &str) -> (&'static str, &'static str) {
+    if standard.starts_with("c++") {
         ("g++", "c++")
     } else {
         ("cc", "c")
-    };
+    }
+}
+
+/// Compiles a program of C, or of C++ where the standard is one of C++, and links it with the archive.
+pub fn compile(standard: &str, include: &Path, source: &Path, program: &Path) -> Output {
+    let (name, language) = language(standard);
     let mut command = compiler(name, standard, include);
     command
         .args(["-x", language])
