@@ -18,3 +18,11 @@ pub use report::{diagnose, write_report};
 pub use score::score;
 pub use sheet::{read, write};
 pub use survey::judge;
+
+use girderbasil::Refusal;
+
+/// A refusal at a place that is counted as the rows and columns of a table are.
+pub fn refusal_at(number: u32, row: usize, column: usize) -> Refusal {
+    let place = [row, column].map(|count| u32::try_from(count).expect("a place of a table"));
+    Refusal::at(number, place[0], place[1])
+}

@@ -21,7 +21,7 @@ fn scored(table: &[u32]) -> Result<Record, Refusal> {
 }
 
 fn refused(number: u32, row: usize, column: usize) -> Result<Record, Refusal> {
-    Err(Refusal::at(number, row, column))
+    Err(model::refusal_at(number, row, column))
 }
 
 /// Puts every number from 19000101 to 21991231 into a column of P1's dates row, beside dates with which any day is in
@@ -154,7 +154,8 @@ fn the_ends_of_months() {
     ] {
         assert_eq!(answers(day), [Ok(()); 3], "{day}");
     }
-    let at_each = |number| [2, 3, 4].map(|column| Err(Refusal::at(number, DATES_ROW, column)));
+    let at_each =
+        |number| [2, 3, 4].map(|column| Err(model::refusal_at(number, DATES_ROW, column)));
     for no_day in [
         19_000_229, 21_000_229, 20_010_229, 20_000_230, 20_010_132, 20_010_431, 20_011_232,
         20_010_100, 20_010_001, 20_010_000, 20_011_301, 20_019_999,

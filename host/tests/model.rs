@@ -13,7 +13,7 @@ use girderbasil_tests::worked::{self, changed};
 
 const ALL_PARTS: u32 = 8191;
 
-fn refused(number: u32, row: usize, column: usize) -> Refusal {
+fn refused(number: u32, row: u32, column: u32) -> Refusal {
     Refusal::at(number, row, column)
 }
 

@@ -14,9 +14,9 @@ use std::fmt;
 /// assert_eq!(refusal.words(), "sheet length");
 /// assert_eq!(Refusal::at(6, 3, 4).to_string(), "refused 6, row 3, column 4");
 /// ```
-#[derive(Debug, Clone, Copy, PartialEq, Eq)]
+#[derive(Debug, Clone, Copy, PartialEq, Eq, Hash)]
 pub struct Refusal {
-    /// The number of documents 01 and 02, one of the constants below. docs/REFUSALS.md explains each.
+    /// The number of documents 01 and 02, one of the constants below. The repository's docs/REFUSALS.md explains each.
     pub number: u32,
     /// The sheet's line, or the table's row.
     pub row: u32,
@@ -56,13 +56,11 @@ impl Refusal {
     }
 
     /// A refusal at a row and column, both counted from 1; the column is 0 where the whole row is meant.
-    pub const fn at(number: u32, row: usize, column: usize) -> Self {
-        // A row is at most one past the last of the longest table, or one that a caller named in 32 bits, so neither place
-        // is ever cut short.
+    pub const fn at(number: u32, row: u32, column: u32) -> Self {
         Self {
             number,
-            row: row as u32,
-            column: column as u32,
+            row,
+            column,
         }
     }
 

@@ -1,5 +1,6 @@
 //! "The sheet and the table": the reader and the writer.
 
+use super::refusal_at;
 use girderbasil::Refusal;
 use girderbasil::{FIELD, LINE, MOST_ROWS, ROW};
 
@@ -41,11 +42,11 @@ pub fn whole_rows<T, const LENGTH: usize>(lent: &[T]) -> Result<&[[T; LENGTH]], 
 fn read_line(row: usize, line: &[u8; LINE], table: &mut Vec<u32>) -> Result<(), Refusal> {
     let (fields, last) = line.as_chunks();
     for (column, field) in (1..).zip(fields) {
-        let number = read_field(field).ok_or(Refusal::at(Refusal::MISPRINT, row, column))?;
+        let number = read_field(field).ok_or(refusal_at(Refusal::MISPRINT, row, column))?;
         table.push(number);
     }
     if last != b"\n" {
-        return Err(Refusal::at(Refusal::MISPRINT, row, ROW + 1));
+        return Err(refusal_at(Refusal::MISPRINT, row, ROW + 1));
     }
     Ok(())
 }
@@ -70,7 +71,7 @@ pub fn write(table: &[u32], lent_bytes: usize) -> Result<Vec<u8>, Refusal> {
     let rows = whole_rows::<u32, ROW>(table)?;
     if let Some(place) = table.iter().position(|&number| number > LARGEST) {
         let (row, column) = (place / ROW + 1, place % ROW + 1);
-        return Err(Refusal::at(Refusal::OUT_OF_RANGE, row, column));
+        return Err(refusal_at(Refusal::OUT_OF_RANGE, row, column));
     }
     if rows.len() * LINE > lent_bytes {
         return Err(Refusal::without_place(Refusal::LENT_SPACE_SHORT));

@@ -55,7 +55,7 @@ pub fn add_wall(totals: &mut Totals, table: &mut [u32], wall: &Row) -> Result<Re
 /// Deletes the wall at a row, counted from 1.
 pub fn delete_wall(totals: &mut Totals, table: &mut [u32], row: u32) -> Result<Record, Refusal> {
     let survey = survey::judge(rows_in_use(totals, table)?)?;
-    let no_such_wall = Refusal::at(Refusal::NO_SUCH_WALL, row as usize, 0);
+    let no_such_wall = Refusal::at(Refusal::NO_SUCH_WALL, row, 0);
     let index = (row as usize).checked_sub(1).ok_or(no_such_wall)?;
     let wall = survey.wall_at(index).ok_or(no_such_wall)?;
     let held = moved(totals, &survey, wall, u64::checked_sub)?;

@@ -3,6 +3,7 @@
 use std::ops::RangeInclusive;
 
 use super::calendar::{Dates, Day};
+use super::refusal_at;
 use super::sheet::{Row, whole_rows};
 use girderbasil::Refusal;
 use girderbasil::{MOST_WALLS, ROW};
@@ -194,7 +195,7 @@ pub fn judge_number_of_walls(before: usize, index: usize) -> Result<(), Refusal>
 
 /// A refusal at the row of an index, which counts from 0.
 fn refusal(number: u32, index: usize, column: usize) -> Refusal {
-    Refusal::at(number, index + 1, column)
+    refusal_at(number, index + 1, column)
 }
 
 /// The row at an index, which must be there and begin with the numbers that are due.

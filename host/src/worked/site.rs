@@ -95,7 +95,7 @@ impl Script {
     }
 
     /// A call that is refused, which leaves all as it was.
-    fn refused(mut self, change: Change, number: u32, row: usize, column: usize) -> Self {
+    fn refused(mut self, change: Change, number: u32, row: u32, column: u32) -> Self {
         let before = self.steps.last();
         let (lent, totals) = before.map_or((&self.lent, self.totals), |it| (&it.lent, it.totals));
         let step = Step {
@@ -199,7 +199,7 @@ fn refused_places() -> Script {
     let of_storey = |storey| Change::Add([4, storey, 1, 2, 20, 2_000, 1, 1]);
     let mut script = Script::new("7.5", &rows_and(2), SUMS);
     for row in [4, 11, 13] {
-        script = script.refused(Change::Delete(row), Refusal::NO_SUCH_WALL, row as usize, 0);
+        script = script.refused(Change::Delete(row), Refusal::NO_SUCH_WALL, row, 0);
     }
     script
         .refused(of_storey(0), Refusal::OUT_OF_RANGE, 5, 2)

@@ -5,9 +5,9 @@ use std::collections::BTreeMap;
 use girderbasil::Totals;
 use girderbasil::{MOST_WALLS, ROW};
 use girderbasil::{Record, Refusal};
-use girderbasil_tests::model;
 use girderbasil_tests::model::site::MOST_TOTAL;
 use girderbasil_tests::model::survey::Survey;
+use girderbasil_tests::model::{self, refusal_at};
 use girderbasil_tests::site::{Change, place_of};
 
 use crate::common::calls::NUMBERS;
@@ -30,7 +30,7 @@ pub struct Call<'call> {
 
 impl Call<'_> {
     fn refused(&self, number: u32, row: usize, column: usize) -> bool {
-        *self.answer == Err(Refusal::at(number, row, column))
+        *self.answer == Err(refusal_at(number, row, column))
     }
 
     fn function(&self) -> usize {

@@ -96,10 +96,7 @@ impl Visit {
             assert_ne!(refusal.number, Refusal::NO_SUCH_WALL);
         }
         if let (Err(refusal), Change::Delete(row)) = (answer, change) {
-            assert_eq!(
-                *refusal,
-                Refusal::at(Refusal::NO_SUCH_WALL, *row as usize, 0)
-            );
+            assert_eq!(*refusal, Refusal::at(Refusal::NO_SUCH_WALL, *row, 0));
         }
         tally.own[usize::from(answer.is_ok())] += 1;
     }
@@ -162,7 +159,7 @@ fn the_place_of_a_deleted_wall_serves_again() {
             visit.call(&mut random, change, &mut tally);
         }
         let answers = visit.earlier.iter().map(|(_, answer)| answer.err());
-        let too_many = Some(Refusal::at(Refusal::TOO_MANY_WALLS, rows as usize - 1, 1));
+        let too_many = Some(Refusal::at(Refusal::TOO_MANY_WALLS, rows - 1, 1));
         assert!(answers.eq([None, too_many, None, None, too_many]));
         assert_eq!(rows, 3 * storeys + 1 + MOST_WALLS as u32 + 2);
     }

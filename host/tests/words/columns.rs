@@ -2,6 +2,7 @@
 
 use girderbasil::{ROW, Refusal};
 use girderbasil_diagnose::words::{self, Bound, Range};
+use girderbasil_tests::model::refusal_at;
 
 use super::WALL;
 
@@ -58,13 +59,13 @@ fn assert_allowed(storeys: u32, row: usize, column: usize, number: u32) {
         // Each end of a storey has at least 1, and a storey at most 50,000.
         (2, 3, 1) => {
             let first_ends = 2 + storeys as usize;
-            Some(Refusal::at(
+            Some(refusal_at(
                 Refusal::ENDS_EXCEED_STOREY,
                 first_ends + 2 * (row - 2),
                 4,
             ))
         }
-        (3, 4 | 5, 50_000) => Some(Refusal::at(Refusal::ENDS_EXCEED_STOREY, row, 4)),
+        (3, 4 | 5, 50_000) => Some(refusal_at(Refusal::ENDS_EXCEED_STOREY, row, 4)),
         _ => None,
     };
     assert_eq!(
@@ -75,7 +76,7 @@ fn assert_allowed(storeys: u32, row: usize, column: usize, number: u32) {
 }
 
 fn assert_refused(rows: &[[u32; ROW]], number: u32, row: usize, column: usize) {
-    let refusal = Refusal::at(number, row, column);
+    let refusal = refusal_at(number, row, column);
     assert_eq!(
         girderbasil::score(rows.as_flattened()),
         Err(refusal),
