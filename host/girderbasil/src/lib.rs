@@ -6,7 +6,7 @@
 //! ```
 //! use girderbasil::{MOST_ROWS, ROW};
 //!
-//! let sheet = include_bytes!("../../../examples/p1.sheet");
+//! let sheet = include_bytes!("../examples/p1.sheet");
 //! let mut table = [0; MOST_ROWS * ROW];
 //! let rows = girderbasil::read(sheet, &mut table)?;
 //! let record = girderbasil::score(&table[..rows * ROW])?;
@@ -14,12 +14,14 @@
 //! # Ok::<(), girderbasil::Refusal>(())
 //! ```
 //!
-//! The functions of this package are safe: a Rust slice is what the boundary (`include/girderbasil.h`) asks of a pointer
+//! The functions of this package are safe: a Rust slice is what the boundary ([`raw`]) asks of a pointer
 //! with a length, and the borrow checker sees to it that storage lent to be filled overlaps nothing else. None keeps anything
 //! between calls, so any threads may call them.
 //!
-//! The build links the archive of the proved library that the environment's `GIRDERBASIL_ARCHIVE` names by its whole path, or
-//! without that one that `tools/archive` makes, for which the Rattle kit has to be there.
+//! The build links the archive of the proved library that the environment's `GIRDERBASIL_ARCHIVE` names by its whole path. It
+//! has to be the archive of the version that this package has ([`VERSION`]), since nothing in it tells its version. Cargo goes
+//! by its time, as with a source file: one that is replaced by an older is linked anew once it is touched. Without the
+//! variable the build links an archive that the repository's `tools/archive` makes, for which the Rattle kit has to be there.
 #![warn(missing_docs)]
 
 mod answers;
@@ -49,7 +51,8 @@ pub const MOST_REPORT_BYTES: usize = 7 * LINE;
 ///
 /// # Errors
 ///
-/// Refused with 1, 9 or 2, tested in that order ([`Refusal`]). A refusal leaves the table as it was.
+/// Refused with [`SHEET_LENGTH`](Refusal::SHEET_LENGTH), [`LENT_SPACE_SHORT`](Refusal::LENT_SPACE_SHORT) or
+/// [`MISPRINT`](Refusal::MISPRINT), tested in that order. A refusal leaves the table as it was.
 ///
 /// ```
 /// let line = format!("{:8}{:8}{:8}{:8}{:8}{:8}{:8}{:8}\n", 1, 1, 2, 100, 1, 1, 0, 0);
@@ -65,7 +68,11 @@ pub fn read(sheet: &[u8], table: &mut [u32]) -> Result<usize, Refusal> {
 ///
 /// # Errors
 ///
-/// Refused with one of 1, 3, 4, 5, 6, 7, 8, 10 and 11 ([`Refusal`]), in the order that docs/REFUSALS.md has.
+/// Refused with [`SHEET_LENGTH`](Refusal::SHEET_LENGTH), [`ROW_OUT_OF_ORDER`](Refusal::ROW_OUT_OF_ORDER),
+/// [`OUT_OF_RANGE`](Refusal::OUT_OF_RANGE), [`TOO_MANY_WALLS`](Refusal::TOO_MANY_WALLS),
+/// [`ENDS_EXCEED_STOREY`](Refusal::ENDS_EXCEED_STOREY), [`MARK_ON_ABSENT_PART`](Refusal::MARK_ON_ABSENT_PART),
+/// [`NO_PARTS`](Refusal::NO_PARTS), [`NO_SUCH_DAY`](Refusal::NO_SUCH_DAY) or
+/// [`DATES_OUT_OF_ORDER`](Refusal::DATES_OUT_OF_ORDER), in the order that the repository's docs/REFUSALS.md has.
 ///
 /// ```
 /// use girderbasil::Refusal;
@@ -81,19 +88,20 @@ pub fn score(table: &[u32]) -> Result<Record, Refusal> {
 ///
 /// # Errors
 ///
-/// Refused as [`score`] refuses; else with 9 where the report is longer than what was lent. A refusal leaves the bytes as they
-/// were.
+/// Refused as [`score`] refuses; else with [`LENT_SPACE_SHORT`](Refusal::LENT_SPACE_SHORT) where the report is longer than what
+/// was lent. A refusal leaves the bytes as they were.
 ///
 /// ```
 /// use girderbasil::{LINE, MOST_REPORT_BYTES, Refusal, write_report};
 ///
-/// # let sheet = include_bytes!("../../../examples/p1.sheet");
+/// # let sheet = include_bytes!("../examples/p1.sheet");
 /// # let mut table = vec![0; sheet.len() / LINE * girderbasil::ROW];
 /// # girderbasil::read(sheet, &mut table)?;
 /// let mut report = [0; MOST_REPORT_BYTES];
 /// let bytes = write_report(&table, &mut report)?;
 /// assert_eq!(report[..bytes], girderbasil::diagnose(sheet));
-/// assert_eq!(write_report(&table, &mut report[..LINE]), Err(Refusal::without_place(9)));
+/// let short = Refusal::without_place(Refusal::LENT_SPACE_SHORT);
+/// assert_eq!(write_report(&table, &mut report[..LINE]), Err(short));
 /// # Ok::<(), Refusal>(())
 /// ```
 pub fn write_report(table: &[u32], report: &mut [u8]) -> Result<usize, Refusal> {
@@ -113,9 +121,11 @@ pub fn diagnose(sheet: &[u8]) -> Vec<u8> {
 /// The same, with the refusal that it tells.
 ///
 /// ```
-/// let output = girderbasil::output(include_bytes!("../../../examples/refused.sheet"));
-/// let refusal = output.refusal().expect("its ends exceed the storey");
-/// assert_eq!(refusal.to_string(), "refused 6, row 3, column 4");
+/// let mut sheet = *include_bytes!("../examples/p1.sheet");
+/// sheet[24..32].copy_from_slice(b"      95");
+/// let output = girderbasil::output(&sheet);
+/// let refusal = output.refusal().expect("95 is no zone");
+/// assert_eq!(refusal.to_string(), "refused 4, row 1, column 4");
 /// assert_eq!(output.bytes().len(), girderbasil::LINE);
 /// ```
 pub fn output(sheet: &[u8]) -> Output {
@@ -160,10 +170,6 @@ fn count_or_refusal(answer: raw::Answer) -> Result<usize, Refusal> {
 fn accepted(number: u32, row: u32, column: u32) -> Result<(), Refusal> {
     match number {
         0 => Ok(()),
-        _ => Err(Refusal {
-            number,
-            row,
-            column,
-        }),
+        _ => Err(Refusal::at(number, row, column)),
     }
 }

@@ -22,7 +22,7 @@ pub struct Totals {
 /// ```
 /// use girderbasil::{LINE, ROW, Refusal, Site};
 ///
-/// # let sheet = include_bytes!("../../../examples/p1.sheet");
+/// # let sheet = include_bytes!("../examples/p1.sheet");
 /// # let mut table = vec![0; sheet.len() / LINE * ROW];
 /// # girderbasil::read(sheet, &mut table)?;
 /// let (mut site, record) = Site::start(&table)?;
@@ -59,8 +59,9 @@ impl Site {
     ///
     /// # Errors
     ///
-    /// Refused with 4 for a column of the wall, or with 5 where the house has [`MOST_WALLS`](crate::MOST_WALLS) walls, both
-    /// at the row that the wall would take. A refusal leaves the house as it was.
+    /// Refused with [`OUT_OF_RANGE`](Refusal::OUT_OF_RANGE) for a column of the wall, or with
+    /// [`TOO_MANY_WALLS`](Refusal::TOO_MANY_WALLS) where the house has [`MOST_WALLS`](crate::MOST_WALLS) walls, both at the
+    /// row that the wall would take. A refusal leaves the house as it was.
     pub fn add_wall(&mut self, wall: &[u32; ROW]) -> Result<Record, Refusal> {
         record_or_refusal(raw::add_wall(&mut self.totals, &mut self.table, wall))
     }
@@ -69,7 +70,8 @@ impl Site {
     ///
     /// # Errors
     ///
-    /// Refused with 12 at that row where it is no wall's. A refusal leaves the house as it was.
+    /// Refused with [`NO_SUCH_WALL`](Refusal::NO_SUCH_WALL) at that row where it is no wall's. A refusal leaves the house as it
+    /// was.
     pub fn delete_wall(&mut self, row: u32) -> Result<Record, Refusal> {
         record_or_refusal(raw::delete_wall(&mut self.totals, &mut self.table, row))
     }
