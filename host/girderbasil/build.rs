@@ -9,6 +9,8 @@ use std::process::{Command, ExitCode};
 
 const ARCHIVE: &str = "libgirderbasil.a";
 const GIVEN: &str = "GIRDERBASIL_ARCHIVE";
+/// What an archive begins with. One with nothing after it has no member, and the linker would miss every function.
+const MAGIC: &[u8] = b"!<arch>\n";
 /// The machine that the archive is made for without being asked, as cargo and as `tools/archive` name it.
 const MACHINE: &str = "x86_64-unknown-linux-gnu";
 const TARGET: &str = "x86_64-linux-gnu";
@@ -38,6 +40,9 @@ fn link() -> Result<(), Box<dyn Error>> {
     // Read whole first: the archive that is given may be this copy itself.
     let bytes = fs::read(&archive)
         .map_err(|error| format!("cannot read the archive {}: {error}", archive.display()))?;
+    if bytes.len() <= MAGIC.len() || !bytes.starts_with(MAGIC) {
+        return Err(format!("{} is no archive", archive.display()).into());
+    }
     fs::write(&copy, bytes)?;
     println!("cargo::metadata=archive={}", copy.display());
     println!("cargo::rustc-link-search=native={}", out.display());

@@ -27,6 +27,28 @@ DEPENDENCY
 [workspace]
 "#;
 
+/// The program of that package, once it is built.
+const CALLER: &str = "target/release/caller";
+
+/// A program that prints what the library tells of a table without rows.
+const TELLS: &str = r#"
+fn main() {
+    println!("{}", girderbasil::score(&[]).expect_err("a refusal"));
+}
+"#;
+
+/// A library that has only what this program calls, and tells every table one number.
+const LIBRARY: &str = r#"
+#include "girderbasil.h"
+girderbasil_scoring girderbasil_score(const uint32_t *table, size_t table_length)
+{
+    girderbasil_scoring scoring = {NUMBER, 0, 0, {0}, 0, 0, 0, {0}, {0}, {0}};
+    (void)table;
+    (void)table_length;
+    return scoring;
+}
+"#;
+
 /// What stands in the README between two marks.
 fn in_readme(before: &str, after: &str) -> &'static str {
     let (_, rest) = README.split_once(before).expect("it is there");
@@ -60,11 +82,11 @@ fn path_without_rt(folder: &Path) -> OsString {
     env::join_paths(folders).expect("folders")
 }
 
-/// A build of a manifest's package, in a target folder of its own, with no `rt` to be found.
-fn cargo_build(manifest: &Path, folder: &Path) -> Command {
+/// A command of cargo on a manifest's package, in a target folder of its own, with no `rt` to be found.
+fn cargo(subcommand: &str, manifest: &Path, folder: &Path) -> Command {
     let mut cargo = Command::new(env!("CARGO"));
     cargo
-        .args(["build", "--release", "--offline", "--quiet"])
+        .args([subcommand, "--release", "--offline", "--quiet"])
         .arg("--manifest-path")
         .arg(manifest)
         .arg("--target-dir")
@@ -74,10 +96,43 @@ fn cargo_build(manifest: &Path, folder: &Path) -> Command {
     cargo
 }
 
+/// Such a build of a package of somebody's with this program.
+fn build_of_caller(folder: &Path, program: &str) -> Command {
+    let dependency = in_readme("In Rust, with `", "`");
+    let top = common::top().to_str().expect("a path of text");
+    let manifest = MANIFEST.replace("DEPENDENCY", &dependency.replace("...", top));
+    fs::create_dir(folder.join("src")).expect("a folder");
+    fs::write(folder.join("Cargo.toml"), manifest).expect("a manifest");
+    fs::write(folder.join("src/main.rs"), program).expect("a program");
+    cargo("build", &folder.join("Cargo.toml"), folder)
+}
+
+/// What the program prints in its package's folder, without a word of complaint.
+fn run_caller(folder: &Path) -> String {
+    let output = common::output(Command::new(folder.join(CALLER)).current_dir(folder));
+    common::assert_silent(&output, CALLER);
+    String::from_utf8(output.stdout).expect("it prints text")
+}
+
+/// An archive of the library that tells a number.
+fn archive_that_tells(folder: &Path, number: u32) -> PathBuf {
+    let [source, object, archive] =
+        ["c", "o", "a"].map(|kind| folder.join(format!("tells-{number}.{kind}")));
+    let library = LIBRARY.replace("NUMBER", &number.to_string());
+    fs::write(&source, library).expect("the library is written");
+    let mut compiler = common::compiler("cc", "c99", &common::top().join("include"));
+    compiler.arg("-c").arg(source).arg("-o").arg(&object);
+    common::assert_silent(&common::output(&mut compiler), "cc");
+    let mut archiver = Command::new("ar");
+    archiver.arg("rcs").arg(&archive).arg(object);
+    common::assert_silent(&common::output(&mut archiver), "ar");
+    archive
+}
+
 /// Builds the package, with something as its archive or nothing.
 fn build(name: &str, archive: Option<&str>) -> Output {
     let folder = common::empty_folder(name);
-    let mut build = cargo_build(&package().join("Cargo.toml"), &folder);
+    let mut build = cargo("build", &package().join("Cargo.toml"), &folder);
     common::output(build.envs(archive.map(|archive| (GIVEN, archive))))
 }
 
@@ -97,17 +152,17 @@ fn the_archive_that_is_given_is_linked() {
     common::assert_silent(&output, "cargo build");
 }
 
-/// The package's folder is all of it, so it can be taken elsewhere without the repository.
+/// The package's folder is all of it, so it can be taken elsewhere without the repository, and tested there.
 #[test]
 fn the_folder_alone_is_a_package() {
     let outside = common::Outside::new("package-alone");
     let mut copying = Command::new("cp");
     let copied = common::output(copying.arg("-R").arg(package()).arg(&*outside));
     common::assert_silent(&copied, "a copy");
-    let mut build = cargo_build(&outside.join("girderbasil/Cargo.toml"), &outside);
-    common::assert_silent(&common::output(build.env(GIVEN, ARCHIVE)), "cargo build");
+    let mut test = cargo("test", &outside.join("girderbasil/Cargo.toml"), &outside);
+    common::assert_silent(&common::output(test.env(GIVEN, ARCHIVE)), "cargo test");
     let folder = common::empty_folder("package-alone");
-    let mut build = cargo_build(&outside.join("girderbasil/Cargo.toml"), &folder);
+    let mut build = cargo("build", &outside.join("girderbasil/Cargo.toml"), &folder);
     let output = common::output(&mut build);
     let tool = outside
         .parent()
@@ -120,6 +175,13 @@ fn the_folder_alone_is_a_package() {
     assert_refused(&output, &[&said]);
 }
 
+/// Its examples read a copy of P1's sheet.
+#[test]
+fn the_package_has_the_sheet_of_the_examples() {
+    let sheet = fs::read(package().join("examples/p1.sheet")).expect("a sheet");
+    assert_eq!(sheet, girderbasil_tests::worked::SHEET);
+}
+
 #[test]
 fn versions_are_the_same() {
     assert_eq!(girderbasil::VERSION, env!("CARGO_PKG_VERSION"));
@@ -130,6 +192,22 @@ fn an_archive_that_is_not_there() {
     let output = build("package-missing", Some("/there/is/no.a"));
     let said = "cannot read the archive /there/is/no.a: No such file or directory (os error 2)";
     assert_refused(&output, &[said]);
+}
+
+/// One without a member, and one that names the files of its members in their place, are as good as none.
+#[test]
+fn what_is_no_archive_of_its_own() {
+    let folder = common::empty_folder("package-no-archives");
+    for (name, bytes) in [
+        ("empty", &b""[..]),
+        ("memberless", b"!<arch>\n"),
+        ("thin", b"!<thin>\n/               "),
+    ] {
+        let archive = folder.join(name);
+        fs::write(&archive, bytes).expect("a file");
+        let output = build(&format!("package-archive-{name}"), archive.to_str());
+        assert_refused(&output, &[&format!("{} is no archive", archive.display())]);
+    }
 }
 
 #[test]
@@ -149,33 +227,45 @@ fn no_archive_and_no_kit() {
     }
 }
 
-/// The README's program, on P1 and on a sheet that is refused: a refusal is an error like any other.
+/// The README's program, on P1 and on a sheet that is refused.
 #[test]
 fn another_program_has_it_as_a_dependency() {
     let folder = common::empty_folder("package-caller");
-    let dependency = in_readme("In Rust, with `", "`");
-    let top = common::top().to_str().expect("a path of text");
-    let manifest = MANIFEST.replace("DEPENDENCY", &dependency.replace("...", top));
-    fs::create_dir(folder.join("src")).expect("a folder");
-    fs::write(folder.join("Cargo.toml"), manifest).expect("a manifest");
-    fs::write(folder.join("src/main.rs"), in_readme("```rust\n", "```\n")).expect("a program");
-    let mut build = cargo_build(&folder.join("Cargo.toml"), &folder);
+    let mut build = build_of_caller(&folder, in_readme("```rust\n", "```\n"));
     common::assert_silent(&common::output(build.env(GIVEN, ARCHIVE)), "cargo build");
-    for (sheet, printed, said, status) in [
-        ("p1", "verdict 4, scores [47, 83]\n", "", 0),
+    for (sheet, printed) in [
+        ("p1", "verdict 4, scores [47, 83]\n"),
         (
             "refused",
-            "",
-            "Error: Refusal { number: 6, row: 3, column: 4 }\n",
-            1,
+            "refused 6, row 3, column 4: ends exceed storey\n",
         ),
     ] {
         let sheet = common::top().join(format!("examples/{sheet}.sheet"));
         fs::copy(sheet, folder.join("p1.sheet")).expect("a sheet");
-        let mut program = Command::new(folder.join("target/release/caller"));
-        let output = common::output(program.current_dir(&folder));
-        assert_eq!(String::from_utf8_lossy(&output.stderr), said);
-        assert_eq!(String::from_utf8_lossy(&output.stdout), printed);
-        assert_eq!(output.status.code(), Some(status));
+        assert_eq!(run_caller(&folder), printed);
     }
+}
+
+/// Cargo goes by the archive's time, so what is as it was is not linked again, and by what the variable names, whose time
+/// is here before the last build's.
+#[test]
+fn another_archive_is_linked_anew() {
+    let folder = common::empty_folder("package-anew");
+    let [first, second] = [21, 22].map(|number| archive_that_tells(&folder, number));
+    let given = folder.join("given.a");
+    let mut build = build_of_caller(&folder, TELLS);
+    let mut told = |archive: &Path| {
+        let output = common::output(build.env(GIVEN, archive));
+        common::assert_silent(&output, "cargo build");
+        run_caller(&folder)
+    };
+    let linked = || fs::metadata(folder.join(CALLER)).and_then(|program| program.modified());
+    fs::copy(&first, &given).expect("an archive");
+    assert_eq!(told(&given), "refused 21\n");
+    let before = linked().expect("a time");
+    assert_eq!(told(&given), "refused 21\n");
+    assert_eq!(linked().expect("a time"), before);
+    fs::copy(&second, &given).expect("an archive");
+    assert_eq!(told(&given), "refused 22\n");
+    assert_eq!(told(&first), "refused 21\n");
 }
