@@ -12,7 +12,8 @@ pub fn command() -> Command {
     command
 }
 
-fn top() -> &'static Path {
+/// The repository's top.
+pub fn top() -> &'static Path {
     Path::new(env!("CARGO_MANIFEST_DIR"))
         .parent()
         .expect("host/ stands in the repository")

@@ -7,6 +7,7 @@ use std::error::Error;
 use std::fs;
 use std::process::Command;
 
+use common::refusals::refusals;
 use girderbasil::{Record, Refusal};
 
 /// Numbers that no refusal has.
@@ -25,14 +26,6 @@ int main(int argc, char **argv)
     return 0;
 }
 "#;
-
-/// The numbers of the page's refusals, with their words.
-fn on_the_page() -> Vec<(u32, String)> {
-    let page = fs::read_to_string(common::top().join("docs/REFUSALS.md")).expect("the page");
-    let rows = page.lines().map(common::cells);
-    rows.filter_map(|cells| Some((cells.get(1)?.parse().ok()?, cells.get(2)?.to_string())))
-        .collect()
-}
 
 /// The header's words for some numbers.
 fn in_the_header(numbers: &[u32]) -> Vec<String> {
@@ -55,8 +48,9 @@ fn in_rust(number: u32) -> &'static str {
 
 #[test]
 fn page_header_and_wrapper_have_the_same_words() {
-    let page = on_the_page();
-    let (numbers, words): (Vec<u32>, Vec<String>) = page.into_iter().unzip();
+    let page = refusals().into_iter();
+    let (numbers, words): (Vec<u32>, Vec<&str>) =
+        page.map(|(number, cells)| (number, cells[0])).unzip();
     assert_eq!(numbers, (1..=12).collect::<Vec<_>>());
     assert_eq!(in_the_header(&numbers), words);
     assert_eq!(numbers.into_iter().map(in_rust).collect::<Vec<_>>(), words);

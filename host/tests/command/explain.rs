@@ -1,8 +1,7 @@
 //! `--explain`: what a verdict means and what a refused sheet has wrong.
 
-use std::fs;
-
 use super::*;
+use common::refusals::{refusals, verdicts};
 use girderbasil::{FIELD, LINE, MOST_WALLS, ROW};
 use girderbasil_diagnose::explain::explain;
 use girderbasil_tests::model;
@@ -16,7 +15,7 @@ fn each_verdict_is_explained_in_the_manuals_words() {
         "倒壊する可能性がある",
         "倒壊する可能性が高い",
     ];
-    let document = refusals();
+    let document = verdicts();
     let mut met = [false; 4];
     for length in [2_000, 4_000, 5_000, 8_000] {
         let table = with_wall_lengths(length);
@@ -24,12 +23,12 @@ fn each_verdict_is_explained_in_the_manuals_words() {
         let sheet = model::write(&table, usize::MAX).expect("the table can be written");
         let least = record.scores[..2].iter().min().expect("there are scores");
         let verdict = record.verdict as usize - 1;
+        let (number, cells) = &document[verdict];
+        assert_eq!(*number, record.verdict);
         let said = format!(
-            "standard input: verdict {}, least score {}.{:02}. {} {}\n",
-            record.verdict,
-            least / 100,
-            least % 100,
-            meaning(&document, record.verdict),
+            "standard input: verdict {number}, least score {}. {} {}\n",
+            common::decimal(*least),
+            cells[1],
             words[verdict]
         );
         let printed = String::from_utf8(model::diagnose(&sheet)).expect("it is text");
@@ -41,15 +40,10 @@ fn each_verdict_is_explained_in_the_manuals_words() {
 
 #[test]
 fn the_refusals_of_the_document_are_told_and_explained() {
-    let document = refusals();
     let mut numbers = Vec::new();
-    for row in document.lines() {
-        let cells = common::cells(row);
-        let [_, number, _, _, example, told, _] = cells[..] else {
-            continue;
-        };
-        let Ok(number) = number.parse::<u32>() else {
-            continue;
+    for (number, cells) in refusals() {
+        let [_, _, example, told] = cells[..] else {
+            panic!("{number} has {cells:?}");
         };
         numbers.push(number);
         // The library has room for every report, so a sheet is never told 9, and no wall is deleted or added, so never 12.
@@ -58,7 +52,11 @@ fn the_refusals_of_the_document_are_told_and_explained() {
         }
         let sheet = example_sheet(number, example);
         let run = diagnose(&["--explain"], &sheet);
-        assert_eq!(words(&run.printed), words(told.trim_matches('`')), "{row}");
+        assert_eq!(
+            words(&run.printed),
+            words(told.trim_matches('`')),
+            "{number}"
+        );
         let said = explained("standard input", &sheet);
         assert_eq!((run.status, run.said), (1, said));
     }
@@ -124,20 +122,6 @@ fn longer_input_is_explained_by_what_was_read() {
 fn explained(name: &str, sheet: &[u8]) -> String {
     let refusal = girderbasil::output(sheet).refusal();
     explain(name, sheet, refusal.expect("it is refused")) + "\n"
-}
-
-fn refusals() -> String {
-    fs::read_to_string(common::top().join("docs/REFUSALS.md")).expect("it is there")
-}
-
-/// What the document says that a verdict means.
-fn meaning(document: &str, verdict: u32) -> &str {
-    let name = format!("verdict {verdict}");
-    document
-        .lines()
-        .map(common::cells)
-        .find(|cells| cells.get(1) == Some(&name.as_str()))
-        .expect("the document has every verdict")[3]
 }
 
 /// P1's table with all walls of one length.

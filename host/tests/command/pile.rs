@@ -103,10 +103,8 @@ fn the_summary_counts_them() {
                 let last = report.lines().last().expect("the verdict's line");
                 let numbers: Vec<&str> = last.split_whitespace().collect();
                 let least: u32 = numbers[2].parse().expect("a number");
-                (
-                    0,
-                    format!("verdict {}  {}.{:02}", numbers[1], least / 100, least % 100),
-                )
+                let least = common::decimal(least);
+                (0, format!("verdict {}  {least}", numbers[1]))
             }
         };
         counts[index] += 1;

@@ -4,6 +4,7 @@
 pub mod calls;
 pub mod header;
 pub mod lent;
+pub mod refusals;
 pub mod remainders;
 
 use std::env;
@@ -15,15 +16,9 @@ use std::process::{Command, Output, Stdio};
 use std::sync::OnceLock;
 use std::thread;
 
+pub use girderbasil_tests::command::top;
 use girderbasil_tests::random::{Random, damage};
 use girderbasil_tests::{model, worked};
-
-/// The repository's top.
-pub fn top() -> &'static Path {
-    Path::new(env!("CARGO_MANIFEST_DIR"))
-        .parent()
-        .expect("host/ stands in the repository")
-}
 
 /// A folder of a test's own.
 pub fn folder(name: &str) -> PathBuf {
@@ -172,6 +167,11 @@ pub fn run_scoring_program(sheet: &[u8]) -> Output {
 /// The cells of a row of a page's table, between an empty one at either end.
 pub fn cells(row: &str) -> Vec<&str> {
     row.split('|').map(str::trim).collect()
+}
+
+/// A score in hundredths as it is shown to people.
+pub fn decimal(hundredths: u32) -> String {
+    format!("{}.{:02}", hundredths / 100, hundredths % 100)
 }
 
 /// A sheet, damaged or not, as itself or for the table it has.
