@@ -8,7 +8,7 @@ mod columns;
 
 use std::fs;
 
-use common::cells;
+use common::refusals::{refusals, verdicts};
 use girderbasil::ROW;
 use girderbasil_diagnose::words::{self, Bound, Range, Verdict};
 use girderbasil_tests::model::calendar::Day;
@@ -121,40 +121,25 @@ fn every_line_is_of_a_known_kind_and_there_once() {
     assert_eq!(met, lines.len());
 }
 
-/// The cells of the rows of docs/REFUSALS.md whose first cell is such a start and a number; the number stands for it.
-fn documented(start: &str, wanted: [usize; 3]) -> Vec<[String; 3]> {
-    let page = fs::read_to_string(common::top().join("docs/REFUSALS.md")).expect("it is there");
-    let rows = page.lines().map(cells).filter_map(|mut cells| {
-        let first = cells.get_mut(1)?;
-        *first = first.strip_prefix(start)?;
-        first.parse::<u32>().ok()?;
-        Some(wanted.map(|cell| cells[cell].to_owned()))
-    });
-    rows.collect()
-}
-
 #[test]
 fn refusals_are_those_of_the_page() {
-    let ours: Vec<_> = (1..=12)
-        .map(|number| {
-            let [word, when] = [words::refusal(number), words::when(number)];
-            [&number.to_string(), word, when].map(str::to_owned)
-        })
-        .collect();
-    assert_eq!(ours, documented("", [1, 2, 3]));
+    let ours = (1..=12).map(|number| (number, [words::refusal(number), words::when(number)]));
+    let page = refusals().into_iter();
+    let documented = page.map(|(number, cells)| (number, [cells[0], cells[1]]));
+    assert_eq!(ours.collect::<Vec<_>>(), documented.collect::<Vec<_>>());
     assert_eq!([0, 13].map(words::refusal), [""; 2]);
     assert_eq!([0, 13].map(words::when), [""; 2]);
 }
 
 #[test]
 fn verdicts_are_those_of_the_page() {
-    let ours: Vec<_> = (1..=4)
-        .map(|number| {
-            let Verdict { english, japanese } = words::verdict(number);
-            [&number.to_string(), english, japanese].map(str::to_owned)
-        })
-        .collect();
-    assert_eq!(ours, documented("verdict ", [1, 3, 4]));
+    let ours = (1..=4).map(|number| (number, words::verdict(number)));
+    let page = verdicts().into_iter();
+    let documented = page.map(|(number, cells)| {
+        let [english, japanese] = [cells[1], cells[2]];
+        (number, Verdict { english, japanese })
+    });
+    assert_eq!(ours.collect::<Vec<_>>(), documented.collect::<Vec<_>>());
     let none = Verdict {
         english: "",
         japanese: "",
