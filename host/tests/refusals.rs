@@ -27,9 +27,9 @@ int main(int argc, char **argv)
 }
 "#;
 
-/// The header's words for some numbers.
-fn in_the_header(numbers: &[u32]) -> Vec<String> {
-    let folder = common::folder("refusals");
+/// The header's words for some numbers, by a program in a folder of that name.
+fn in_the_header(name: &str, numbers: &[u32]) -> Vec<String> {
+    let folder = common::folder(name);
     let source = folder.join("refusals.c");
     fs::write(&source, PROGRAM).expect("the program is written");
     let program = folder.join("refusals");
@@ -52,14 +52,15 @@ fn page_header_and_wrapper_have_the_same_words() {
     let (numbers, words): (Vec<u32>, Vec<&str>) =
         page.map(|(number, cells)| (number, cells[0])).unzip();
     assert_eq!(numbers, (1..=12).collect::<Vec<_>>());
-    assert_eq!(in_the_header(&numbers), words);
+    assert_eq!(in_the_header("refusals", &numbers), words);
     assert_eq!(numbers.into_iter().map(in_rust).collect::<Vec<_>>(), words);
 }
 
 /// The number 0 is one of an answer that is no refusal. The wrapper has no refusal of that number, but a caller can make one.
 #[test]
 fn what_is_no_refusal_has_none_of_these_words() {
-    assert_eq!(in_the_header(&NONE), ["accepted", "unknown", "unknown"]);
+    let words = in_the_header("no-refusals", &NONE);
+    assert_eq!(words, ["accepted", "unknown", "unknown"]);
     assert_eq!(NONE.map(in_rust), ["unknown"; 3]);
 }
 

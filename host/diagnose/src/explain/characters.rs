@@ -1,6 +1,6 @@
 //! What stands in a line or a field where only digits and spaces may.
 
-use crate::summary::width;
+use crate::name::width;
 
 /// The name of the sentence for it; none where there are only digits and spaces.
 pub fn odd(text: &[u8]) -> Option<&'static str> {
