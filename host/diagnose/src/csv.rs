@@ -49,7 +49,7 @@ pub fn write_sheet(text: &[u8], sheet: &mut Vec<u8>) -> Result<(), String> {
 }
 
 /// By its mark, or where it has none by each other byte of the first two characters: it is 0 where they are of ASCII.
-fn is_utf_16(text: &[u8]) -> bool {
+pub fn is_utf_16(text: &[u8]) -> bool {
     match text {
         // UTF-32 begins with the same mark.
         [0xff, 0xfe, 0, 0, ..] => false,

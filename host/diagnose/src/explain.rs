@@ -57,7 +57,7 @@ fn mistake(sheet: &[u8], refusal: Refusal) -> Option<String> {
         column,
     } = refusal;
     if number == Refusal::MISPRINT {
-        return lines::in_line(sheet, row).or_else(|| field::explain(sheet, row, column));
+        return lines::in_line(sheet, row, column).or_else(|| field::explain(sheet, row, column));
     }
     let rows = rows(sheet)?;
     let place = (row as usize).checked_sub(1)?;

@@ -21,15 +21,16 @@ pub fn shown(name: &OsStr) -> String {
 
 /// Control characters, the ends of lines and paragraphs, and what turns the direction of the text behind it.
 fn changes_line(character: char) -> bool {
-    character.is_control() || matches!(character, '\u{2028}'..='\u{202e}' | '\u{2066}'..='\u{2069}')
+    let turns = matches!(character, '\u{61c}' | '\u{200e}' | '\u{200f}' | '\u{202a}'..='\u{202e}' | '\u{2066}'..='\u{2069}');
+    character.is_control() || turns || matches!(character, '\u{2028}' | '\u{2029}')
 }
 
-/// How many columns of a terminal a text takes: two for each character of Japanese, Chinese or Korean and each emoji, and
+/// How many columns of a terminal a text takes: two for each character of Japanese, Chinese or Korean and most emoji, and
 /// none for a mark that is set on the character before it, as in names from a Mac, or that has no width.
 pub fn width(text: &str) -> usize {
     let columns = text.chars().map(|character| match character {
         '\u{300}'..='\u{36f}'
-        | '\u{200b}'..='\u{200f}'
+        | '\u{200b}'..='\u{200d}'
         | '\u{3099}'
         | '\u{309a}'
         | '\u{fe00}'..='\u{fe0f}' => 0,

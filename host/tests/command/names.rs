@@ -11,7 +11,10 @@ const NAMES: [(&str, &str); 7] = [
     ("\u{1b}[31mb.sheet", r"\u{1b}[31mb.sheet"),
     ("a\u{7f}\u{9b}b.sheet", r"a\u{7f}\u{9b}b.sheet"),
     ("a\u{2028}b\u{202e}.sheet", r"a\u{2028}b\u{202e}.sheet"),
-    ("a\u{2066}b\u{2069}.sheet", r"a\u{2066}b\u{2069}.sheet"),
+    (
+        "a\u{2066}b\u{200f}\u{61c}.sheet",
+        r"a\u{2066}b\u{200f}\u{61c}.sheet",
+    ),
 ];
 
 #[test]

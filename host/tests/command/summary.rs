@@ -43,7 +43,7 @@ fn names_are_padded_by_the_columns_that_they_take() {
         "ab.sheet      verdict 4  0.47\n",
         "邸か\u{3099}.sheet    verdict 4  0.47\n",
         "\u{1f300}🏠\u{1faff}.sheet  verdict 4  0.47\n",
-        "a\u{200b}\u{200f}\u{fe00}\u{fe0f}b.sheet      verdict 4  0.47\n",
+        "a\u{200b}\u{200d}\u{fe00}\u{fe0f}b.sheet      verdict 4  0.47\n",
         "a\\nb.sheet    verdict 4  0.47\n",
         "6 sheets: 6 scored, 0 refused\n",
     );
@@ -52,7 +52,7 @@ fn names_are_padded_by_the_columns_that_they_take() {
         "ab.sheet",
         "邸か\u{3099}.sheet",
         "\u{1f300}🏠\u{1faff}.sheet",
-        "a\u{200b}\u{200f}\u{fe00}\u{fe0f}b.sheet",
+        "a\u{200b}\u{200d}\u{fe00}\u{fe0f}b.sheet",
         "a\nb.sheet",
     ];
     let folder = folder_with("columns", &names.map(|name| (name, SHEET)));

@@ -59,8 +59,8 @@ fn commas_for_spaces() -> Vec<u8> {
     sheet
 }
 
-const TOO_LONG: &str = "p1.sheet: more than 20280 bytes, the length of 312 lines; a house of three storeys with 300 walls \
-                        has no more. [1 sheet length]";
+const TOO_LONG: &str = "p1.sheet: longer than 312 lines of 65 bytes; a house of three storeys with 300 walls is no longer. \
+                        [1 sheet length]";
 
 #[rustfmt::skip]
 pub fn whole() -> Vec<Case> {
@@ -111,9 +111,9 @@ pub fn whole() -> Vec<Case> {
             "p1.sheet: semicolons in place of columns; the option --csv says what else is wrong. [1 sheet length]"),
         (&[], str::from_utf8(&separated(",")).expect("text").replace('\n', ",\n").into_bytes(),
             "p1.sheet: commas in place of columns; the option --csv says what else is wrong. [1 sheet length]"),
-        (&["no text"], utf_16()[2..].to_vec(),
-            "p1.sheet:1: it is no plain text; save as plain text, in UTF-8 without a byte order mark. [2 misprint]"),
-        (&[], utf_32(),
+        (&[], utf_16()[2..].to_vec(),
+            "p1.sheet:1: it is in UTF-16; save as plain text, in UTF-8 without a byte order mark. [2 misprint]"),
+        (&["no text"], utf_32(),
             "p1.sheet: it is no plain text; save as plain text, in UTF-8 without a byte order mark. [1 sheet length]"),
         (&[], picture(200),
             "p1.sheet: it is no plain text; save as plain text, in UTF-8 without a byte order mark. [1 sheet length]"),

@@ -70,7 +70,7 @@ pub fn ends() -> Vec<Case> {
             "p1.sheet:12: 66 bytes, not 65: 2 spaces at the end. [1 sheet length]"),
         // Lines ran together, and the last is cut, so no field is known to stand in its place.
         (&[], with_field(5, 9, b"0")[..12 * LINE - 1].to_vec(),
-            "p1.sheet:5: 130 bytes, not 65: two lines run together, with no newline between them. [1 sheet length]"),
+            "p1.sheet:5: 130 bytes, not 65: lines run together, with no newline between them. [1 sheet length]"),
         // The last line is as much shorter, so the whole has the length of 12 lines.
         (&[], with_end(5, b" ")[..12 * LINE].to_vec(),
             "p1.sheet:5: 66 bytes, not 65: a space at the end. [2 misprint]"),
@@ -135,18 +135,37 @@ pub fn columns() -> Vec<Case> {
         (&[], in_line(12, b"20120401", b"2012041"),
             "p1.sheet:12: 64 bytes, not 65: column 4 (survey day) is the first that does not end in its place. \
              [1 sheet length]"),
+        // A day that is too short, or has a space in it or before it; a kind that is none of its row.
+        (&[], in_line(12, b"19800401", b"800401"),
+            "p1.sheet:12: 63 bytes, not 65: column 2 (start of work) is the first that does not end in its place. \
+             [1 sheet length]"),
+        (&[], in_line(12, b"19800401", b"1 9800401"),
+            "p1.sheet:12: 66 bytes, not 65: column 2 (start of work) is the first that does not end in its place. \
+             [1 sheet length]"),
+        (&[], in_line(12, b"8198004011980100120120401", b"8 19800401 19801001 20120401"),
+            "p1.sheet:12: 68 bytes, not 65: column 2 (start of work) is the first that does not end in its place. \
+             [1 sheet length]"),
+        (&[], in_line(12, b"8198", b"198"),
+            "p1.sheet:12: 64 bytes, not 65: column 1 (kind) is the first that does not end in its place. [1 sheet length]"),
+        // Eight digits that nothing follows end in their place.
+        (&[], in_line(5, b"    2000       1       1\n", b"12345678       1       1       0\n"),
+            "p1.sheet:5: 73 bytes, not 65: 8 columns are due, not 9. [1 sheet length]"),
+        (&[], with_end(5, b"// north"),
+            "p1.sheet:5: 73 bytes, not 65: \"// north\" after column 8. [1 sheet length]"),
+        (&[], [in_line(5, b"\n", b"")[..5 * LINE + 63].to_vec(), SHEET[6 * LINE..].to_vec()].concat(),
+            "p1.sheet:5: 193 bytes, not 65: lines run together, with no newline between them. [1 sheet length]"),
         (&["beyond"], with_end(5, b"0"),
             "p1.sheet:5: 66 bytes, not 65: \"0\" after column 8. [1 sheet length]"),
         (&["columns"], in_line(5, b"       1\n", b"\n"),
             "p1.sheet:5: 57 bytes, not 65: 8 columns are due, not 7. [1 sheet length]"),
         (&[], with_end(5, b"       0"),
             "p1.sheet:5: 73 bytes, not 65: 8 columns are due, not 9. [1 sheet length]"),
-        (&["two lines"], in_line(5, b"\n", b""),
-            "p1.sheet:5: 129 bytes, not 65: two lines run together, with no newline between them. [1 sheet length]"),
+        (&["run together"], in_line(5, b"\n", b""),
+            "p1.sheet:5: 129 bytes, not 65: lines run together, with no newline between them. [1 sheet length]"),
         (&[], in_line(5, b"\n", b" ")[..12 * LINE - 1].to_vec(),
-            "p1.sheet:5: 130 bytes, not 65: two lines run together, with no newline between them. [1 sheet length]"),
+            "p1.sheet:5: 130 bytes, not 65: lines run together, with no newline between them. [1 sheet length]"),
         (&[], with_field(11, 9, b"\r")[..12 * LINE - 1].to_vec(),
-            "p1.sheet:11: 129 bytes, not 65: two lines run together, with no newline between them. [1 sheet length]"),
+            "p1.sheet:11: 129 bytes, not 65: lines run together, with no newline between them. [1 sheet length]"),
         // The second is no row.
         (&[], in_line(5, b"\n", b"  ")[..12 * LINE - 2].to_vec(),
             "p1.sheet:5: 131 bytes, not 65: \"        \".. after column 8. [1 sheet length]"),

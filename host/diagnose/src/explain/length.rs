@@ -2,7 +2,7 @@
 
 use girderbasil::{FIELD, LINE, ROW};
 
-use super::{characters, column_named, field};
+use super::{STOREY, characters, column_named, field};
 use crate::words::{self, Bound, Range, sentence};
 
 /// The bytes of a line before its newline.
@@ -43,14 +43,16 @@ fn why(text: &[u8], has_return: bool) -> String {
         Some(more) if more == spaces => return sentence("spaces", &[("spaces", &spaces)]),
         _ => {}
     }
-    if is_two_rows(text) {
-        return sentence("two lines", &[]);
+    if are_rows(text) {
+        return sentence("run together", &[]);
     }
     if let Some(column) = shifted(text) {
         return in_column(text, column);
     }
     match text.as_chunks::<FIELD>() {
-        (fields, []) => sentence("columns", &[("columns", &fields.len()), ("row", &ROW)]),
+        (fields, []) if fields.iter().all(|it| field::number(it).is_some()) => {
+            sentence("columns", &[("columns", &fields.len()), ("row", &ROW)])
+        }
         _ => sentence(
             "beyond",
             &[("rest", &field::quoted(&text[TEXT..])), ("row", &ROW)],
@@ -74,19 +76,35 @@ fn in_column(text: &[u8], column: u32) -> String {
     }
 }
 
-/// Whether two rows stand there, with no byte or with one between them.
-fn is_two_rows(text: &[u8]) -> bool {
-    let is_row = |text: &[u8]| text.chunks(FIELD).all(|it| field::number(it).is_some());
-    let is_length = (2 * TEXT..=2 * TEXT + 1).contains(&text.len());
-    is_length && is_row(&text[..TEXT]) && is_row(&text[text.len() - TEXT..])
+/// Whether whole rows stand there, two or more, with no byte or with one between each and the next.
+fn are_rows(text: &[u8]) -> bool {
+    let is_row = |row: &[u8]| {
+        row.len() >= TEXT
+            && row[..TEXT]
+                .chunks(FIELD)
+                .all(|it| field::number(it).is_some())
+    };
+    let is_more = text.len() >= 2 * TEXT;
+    is_more && (text.chunks(TEXT).all(is_row) || text.chunks(LINE).all(is_row))
+}
+
+/// The column that is named of a line, which is given with its newline; none where it is another reason.
+pub fn column(line: &[u8]) -> Option<u32> {
+    let text = line.strip_suffix(b"\n").unwrap_or(line);
+    shifted(text.strip_suffix(b"\r").unwrap_or(text))
 }
 
 /// The first column whose number does not end where the column ends.
 fn shifted(text: &[u8]) -> Option<u32> {
     let kind = field::kind(text, 2);
+    let goes_on = |column: u32| {
+        let next = text.get(column as usize * FIELD);
+        next.is_some_and(u8::is_ascii_digit)
+    };
     let mut fields = (1..).zip(text.chunks(FIELD)).take(ROW);
-    let (column, field) = fields.find(|(column, field)| !is_in_place(kind, *column, field))?;
-    if column == 1 || field.starts_with(b" ") {
+    let (column, field) =
+        fields.find(|&(column, field)| !is_in_place(kind, column, field, goes_on(column)))?;
+    if column == 1 || field.starts_with(b" ") || text.len().abs_diff(TEXT) >= FIELD {
         return Some(column);
     }
     // Its number may be whole, but moved by what the line has too much or too little: the cause is then before it.
@@ -94,25 +112,29 @@ fn shifted(text: &[u8]) -> Option<u32> {
     let moved = start
         .checked_sub(TEXT)
         .and_then(|it| text.get(it..it + FIELD));
-    let is_moved = moved.is_some_and(|moved| is_in_place(kind, column, moved));
+    let is_moved = moved.is_some_and(|moved| is_in_place(kind, column, moved, true));
     Some(column - u32::from(is_moved))
 }
 
-/// Whether a field has a number that ends with it. Eight digits leave no space to show it, but only days have so many;
-/// and a kind, which has one digit, may stand before a day.
-fn is_in_place(kind: Option<u32>, column: u32, field: &[u8]) -> bool {
+/// The least number of a column of days. They have eight digits, and so no space between them.
+const LEAST_DAY: u32 = 10_000_000;
+
+/// Whether a field has a number that ends with it, where a digit comes after it or none.
+fn is_in_place(kind: Option<u32>, column: u32, field: &[u8], goes_on: bool) -> bool {
     let Some(number) = field::number(field) else {
         return false;
     };
     if column == 1 {
-        return number < 10;
+        // A day follows the kind of its own row without a space.
+        return number < 10 && !(goes_on && number <= STOREY);
     }
     let words = kind.and_then(|kind| words::column(kind, column));
-    match words.map(|words| words.range) {
-        _ if field.starts_with(b" ") => true,
-        Some(Range::Between(Bound::Number(least), Bound::Number(greatest))) => {
-            (least..=greatest).contains(&number)
-        }
-        _ => false,
+    let range = match words.map(|words| words.range) {
+        Some(Range::Between(Bound::Number(least), Bound::Number(greatest))) => least..=greatest,
+        _ => 0..=0,
+    };
+    if field.starts_with(b" ") {
+        return !(goes_on && *range.start() >= LEAST_DAY);
     }
+    !goes_on || range.contains(&number)
 }

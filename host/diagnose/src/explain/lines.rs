@@ -23,14 +23,17 @@ pub fn explain(sheet: &[u8]) -> Option<(u32, String)> {
     // No more was read of it, so the end of its last line is not known.
     let is_cut = sheet.len() >= MOST_BYTES;
     let odd = if is_cut { None } else { odd_line(sheet) };
+    let odd = odd.map(|(row, line)| (row, of_odd_line(sheet, row, line)));
     odd.or_else(|| (sheet.len() > MOST_ROWS * LINE).then(|| (0, too_long())))
 }
 
-/// The same of a sheet whose length happens to be one that sheets have, where reading it ended in a row.
-pub fn in_line(sheet: &[u8], row: u32) -> Option<String> {
+/// The same of a sheet whose length happens to be one that sheets have, where reading it ended in a row and column. What is
+/// wrong with the line's length is said only where it names no other column.
+pub fn in_line(sheet: &[u8], row: u32, column: u32) -> Option<String> {
     whole(sheet).or_else(|| {
-        let (odd, what) = odd_line(sheet)?;
-        (odd == row).then_some(what)
+        let (odd, line) = odd_line(sheet)?;
+        let is_there = odd == row && length::column(line).is_none_or(|named| named == column);
+        is_there.then(|| of_odd_line(sheet, odd, line))
     })
 }
 
@@ -38,8 +41,8 @@ fn too_long() -> String {
     sentence(
         "too long",
         &[
-            ("bytes", &(MOST_ROWS * LINE)),
             ("most", &MOST_ROWS),
+            ("line", &LINE),
             ("walls", &MOST_WALLS),
         ],
     )
@@ -54,9 +57,11 @@ fn whole(sheet: &[u8]) -> Option<String> {
         return Some(sentence("CR", &[]));
     }
     if let Some(separators) = separators(sheet) {
+        // Of a longer file no more is known, and --csv takes none.
+        let is_whole = sheet.len() < MOST_BYTES;
         let name = match csv::write_sheet(sheet, &mut Vec::new()) {
-            Ok(()) => "separators",
-            Err(_) => "no table",
+            Ok(()) if is_whole => "separators",
+            _ => "no table",
         };
         let separators = sentence(separators, &[]);
         return Some(sentence(name, &[("separators", &separators)]));
@@ -71,8 +76,7 @@ fn whole(sheet: &[u8]) -> Option<String> {
 
 /// The name of the sentence for a file whose bytes are no text, or text of another kind.
 fn no_text(sheet: &[u8]) -> Option<&'static str> {
-    let is_utf_32 = sheet.starts_with(b"\xff\xfe\0\0");
-    if !is_utf_32 && (sheet.starts_with(b"\xff\xfe") || sheet.starts_with(b"\xfe\xff")) {
+    if csv::is_utf_16(sheet) {
         return Some("UTF-16");
     }
     let is_control = |byte: &&u8| byte.is_ascii_control() && !b"\t\n\r".contains(byte);
@@ -88,18 +92,20 @@ fn separators(sheet: &[u8]) -> Option<&'static str> {
     Some(name)
 }
 
-/// The first line that is not 65 bytes, and why. Lines that ran together for want of a newline are no such line where
+/// The first line that is not 65 bytes, and its row. Lines that ran together for want of a newline are no such line where
 /// they are whole: what stands in the newline's place is then the mistake.
-fn odd_line(sheet: &[u8]) -> Option<(u32, String)> {
-    let (index, line) = lines(sheet)
-        .enumerate()
+fn odd_line(sheet: &[u8]) -> Option<(u32, &[u8])> {
+    let (row, line) = (1..)
+        .zip(lines(sheet))
         .find(|(_, line)| line.len() != LINE)?;
-    if line.len().is_multiple_of(LINE) && sheet.len().is_multiple_of(LINE) {
-        return None;
-    }
-    let before = &sheet[..index * LINE];
-    let what = after_sheet(before, line).unwrap_or_else(|| length::explain(line));
-    Some((index as u32 + 1, what))
+    let is_whole = line.len().is_multiple_of(LINE) && sheet.len().is_multiple_of(LINE);
+    (!is_whole).then_some((row, line))
+}
+
+/// What is wrong with that line.
+fn of_odd_line(sheet: &[u8], row: u32, line: &[u8]) -> String {
+    let before = &sheet[..(row as usize - 1) * LINE];
+    after_sheet(before, line).unwrap_or_else(|| length::explain(line))
 }
 
 /// A few bytes that follow a whole sheet, whose last row is that of the dates.
