@@ -86,7 +86,7 @@ fn the_environment_changes_nothing() {
 #[test]
 fn all_words_are_handed_on() {
     let copy = Copy::built("words");
-    let link = copy.0.join("link to diagnose");
+    let link = common::empty_folder("launcher-link").join("link to diagnose");
     symlink(copy.0.join("diagnose"), &link).expect("a link");
     let sheet = copy.0.join("a sheet * of two  words");
     fs::write(&sheet, SHEET).expect("the sheet is written");

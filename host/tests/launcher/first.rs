@@ -19,14 +19,17 @@ pub fn first_run() -> &'static Output {
         let output = shell("./diagnose", common::top());
         // Where nothing could be proved, whoever links with it still finds it.
         if !archive.exists() && aside.exists() {
+            let folder = archive.parent().expect("its folder");
+            fs::create_dir_all(folder).expect("a folder");
             fs::rename(aside, archive).expect("it goes back");
         }
         output
     })
 }
 
+/// `tools/archive` clears the folder that it stands in.
 fn put_aside(archive: &Path) -> PathBuf {
-    let aside = archive.with_extension("aside");
+    let aside = common::top().join("target/libgirderbasil.aside");
     let _ = fs::rename(archive, &aside);
     aside
 }

@@ -18,7 +18,8 @@ use std::io::{BufRead, BufReader, Lines};
 use std::os::unix::fs::PermissionsExt;
 use std::path::{Path, PathBuf};
 use std::process::{Child, ChildStderr, Command, Output, Stdio};
-use std::time::SystemTime;
+use std::thread;
+use std::time::{Duration, SystemTime};
 
 use girderbasil_tests::worked::{REPORT, SHEET};
 
@@ -70,8 +71,12 @@ impl Copy {
         make_executable(&tool, true);
     }
 
+    /// The launcher, which heeds every signal whatever these tests were told to ignore.
     fn command(&self) -> Command {
-        Command::new(self.0.join("diagnose"))
+        let mut command = Command::new("/usr/bin/env");
+        command.arg("--default-signal=INT,TERM,HUP,QUIT");
+        command.arg(self.0.join("diagnose"));
+        command
     }
 
     /// Runs the command on P1.
@@ -104,6 +109,41 @@ impl Copy {
 
     fn program(&self) -> PathBuf {
         self.0.join("target/bin/diagnose")
+    }
+}
+
+/// Looks for something that comes within a minute.
+fn wait_for<Found>(what: &str, mut look: impl FnMut() -> Option<Found>) -> Found {
+    for _ in 0..6_000 {
+        if let Some(found) = look() {
+            return found;
+        }
+        thread::sleep(Duration::from_millis(10));
+    }
+    panic!("{what} does not come");
+}
+
+/// A process that a build leaves running, by the file with its number. It is ended with the test.
+struct Left(PathBuf);
+
+impl Left {
+    fn number(&self) -> String {
+        wait_for("the number of a process", || {
+            let text = fs::read_to_string(&self.0).ok()?;
+            Some(text.strip_suffix('\n')?.to_owned())
+        })
+    }
+}
+
+impl Drop for Left {
+    fn drop(&mut self) {
+        // It may never have been started, or have ended.
+        if let Ok(number) = fs::read_to_string(&self.0) {
+            let _ = Command::new("kill")
+                .arg(number.trim())
+                .stderr(Stdio::null())
+                .status();
+        }
     }
 }
 

@@ -80,13 +80,21 @@ fn the_other_may_have_built_it() {
 #[test]
 fn nothing_else_has_the_lock() {
     let copy = Copy::new("lock");
-    copy.prove_by(&format!("{HAND_OUT}\nsleep 5 >/dev/null 2>&1 &"));
+    let lines = "sleep 1000 >/dev/null 2>&1 & echo $! >\"$copy/sleeping\"";
+    copy.prove_by(&format!("{HAND_OUT}\n{lines}"));
+    let _sleeping = Left(copy.0.join("sleeping"));
     let mut command = copy.command();
     command.stdin(Stdio::piped()).stdout(Stdio::piped());
     let mut reading = command.stderr(Stdio::null()).spawn().expect("it runs");
-    while !copy.program().exists() {
-        thread::sleep(Duration::from_millis(10));
-    }
+    wait_for("the lock", || {
+        let mut flock = Command::new("flock");
+        flock
+            .arg("-n")
+            .arg(copy.0.join("target/diagnose.log"))
+            .arg("true");
+        let is_free = flock.status().expect("flock runs").success();
+        (is_free && copy.program().exists()).then_some(())
+    });
     copy.change("words.txt");
     assert_scored(&copy.run(), BUILDING);
     let mut input = reading.stdin.take().expect("it is piped");
