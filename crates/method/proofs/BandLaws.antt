@@ -1,9 +1,9 @@
 -- Bands and the layout factor: the test by which a band is computed; a band never rises as more is required, and with the higher band kept
 -- the factor never rises as bands fall. Assumes nothing.
 use Rattle.std.proofs.Common.{◌≡◌, refl, sym, ap, ◌∙◌, Bool, true, false, not, ◌&&◌, ◌||◌, [], ℕ, ◌+◌, ◌*◌, ◌/◌, ◌%◌, ◌≤◌, zero-le, max, cond, count_by, ◌∷◌, mul-add, mul_left_comm, mul-le-mul_left, le_refl, le_trans, add-le-add, arith, length, get_or, unwrap_or, eqb, leb, lit≤, leb-true, leb-false, le-leb, eqb-true, eq-eqb}
+use mir.Val.{bool_byte}
 use native.Mathlib.Nat.{min-le_right}
 use native.Mathlib.Decide.{dec_le}
-use Rattle.std.specs.Int.{div_ceil}
 use lib.ListN.{get_or-eq_default}
 use borrow.Author.Tests.{lt-leb}
 use Rattle.method.specs.declared.rows.Storey.{Storey}
@@ -18,16 +18,16 @@ use Rattle.method.proofs.Branches.{cond_most, cond_least}
 -- The function's test, which has no product beyond 64 bits, is the definition's: limit × required / 100,000, rounded up, is at most what is
 -- held just where limit × required is at most 100,000 × held.
 pub reached_test : (held required limit : ℕ)
-    → leb (limit * (required / 100_000) + div_ceil (limit * (required % 100_000)) 100_000) held ≡ leb (limit * required) (100_000 * held)
+    → leb (limit * (required / 100_000) + (limit * (required % 100_000) + 99_999) / 100_000) held ≡ leb (limit * required) (100_000 * held)
 reached_test held required limit =
-    go (leb (limit * (required / 100_000) + div_ceil (limit * (required % 100_000)) 100_000) held) refl
+    go (leb (limit * (required / 100_000) + (limit * (required % 100_000) + 99_999) / 100_000) held) refl
   where
     apart : limit * required ≡ 100_000 * (limit * (required / 100_000)) + limit * (required % 100_000)
     apart =
         let sum : required ≡ 100_000 * (required / 100_000) + required % 100_000 = omega arith in
         ap (λ (n : ℕ). limit * n) sum ∙ rw (mul-add limit _ _, mul_left_comm limit 100_000 _)
 
-    go : (t : Bool) → leb (limit * (required / 100_000) + div_ceil (limit * (required % 100_000)) 100_000) held ≡ t
+    go : (t : Bool) → leb (limit * (required / 100_000) + (limit * (required % 100_000) + 99_999) / 100_000) held ≡ t
         → t ≡ leb (limit * required) (100_000 * held)
     go true e = sym (le-leb (limit * required) (100_000 * held) (omega (arith, apart, leb-true _ held e)))
     go false e = sym (lt-leb (limit * required) (100_000 * held) (omega (arith, apart, leb-false _ held e)))
@@ -38,7 +38,7 @@ one_if true = refl
 one_if false = refl
 
 pub reached_known : (held required limit : ℕ)
-    → leb (limit * (required / 100_000) + div_ceil (limit * (required % 100_000)) 100_000) held
+    → leb (limit * (required / 100_000) + (limit * (required % 100_000) + 99_999) / 100_000) held
     ≡ eqb (reached (record { held = held; required = required }) limit) 1
 unfolding reached
 reached_known held required limit = reached_test held required limit ∙ one_if (leb (limit * required) (100_000 * held))
@@ -171,6 +171,15 @@ pair_mirrored one other floor = go (dec_le one 4) (dec_le other 4) (dec_le floor
 pub layout_mirrored : (ends : Bands) (floor : ℕ) → layout_factor ends floor ≡ layout_factor (record { a = ends.b; b = ends.a }) floor
 unfolding layout_factor
 layout_mirrored ends floor = pair_mirrored ends.a ends.b floor
+
+-- What the function adds for a limit, 1 where it is reached, is the definition's number.
+pub reached_number : (end : Strengths) (limit : ℕ) → bool_byte (eqb (reached end limit) 1) ≡ reached end limit
+unfolding reached
+reached_number end limit = one (leb (limit * end.required) (100_000 * end.held))
+  where
+    one : (t : Bool) → bool_byte (eqb (cond t 1 0) 1) ≡ cond t 1 0
+    one true = refl
+    one false = refl
 
 -- The band is how many of the limits are reached.
 pub band_counted : (end : Strengths) → count_by (λ (limit : ℕ). eqb (reached end limit) 1) (33 ∷ 66 ∷ 100 ∷ 133 ∷ []) ≡ band end

@@ -47,9 +47,6 @@ static LAYOUT_FACTORS: [[[u8; 3]; 5]; 5] = [
     ],
 ];
 
-// The limits where bands B to E begin, in hundredths.
-const BAND_LIMITS: [u64; 4] = [33, 66, 100, 133];
-
 // Whether an end's sufficiency is at least so many hundredths. That is where limit × required is at most
 // 100,000 × held, but such products may be beyond a u64. So the required strength is taken apart, and
 // limit × required / 100,000, rounded up, is compared with what is held.
@@ -58,7 +55,7 @@ fn reached(end: Strengths, limit: u64) -> bool
     ensures { result ≡ eqb (reached end limit) 1 }
 {
     let whole = limit * (end.required / 100_000);
-    let rest = (limit * (end.required % 100_000)).div_ceil(100_000);
+    let rest = (limit * (end.required % 100_000) + 99_999) / 100_000;
     whole + rest <= end.held
 }
 
@@ -67,10 +64,10 @@ fn reached(end: Strengths, limit: u64) -> bool
 pub fn band(end: Strengths) -> u32
     ensures { result ≡ band end }
 {
-    BAND_LIMITS
-        .iter()
-        .filter(|&&limit| reached(end, limit))
-        .count() as u32
+    u32::from(reached(end, 33))
+        + u32::from(reached(end, 66))
+        + u32::from(reached(end, 100))
+        + u32::from(reached(end, 133))
 }
 
 // A storey's floor type, a void taken into account. Any other number than 1 is no void, and it answers a

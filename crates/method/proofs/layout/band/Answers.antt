@@ -1,15 +1,22 @@
 -- `band` is what its definition says. Assumes nothing.
-use Rattle.std.proofs.Common.{ℕ, Bool, List, [], ◌∷◌, ◌∙◌, eqb, rules, tests}
-use Rattle.std.proofs.lemmas.Iterator.{YieldsList-from_slice}
-use Rattle.std.proofs.lemmas.Iterator.Consumers.{count_from_yields_List, YieldsList-from_filter}
-use Rattle.std.proofs.lemmas.List.Sums.{length-filter}
-use Rattle.method.specs.LayoutFactor.{reached}
-use Rattle.method.proofs.BandLaws.{band_counted}
+use Rattle.method.specs.LayoutFactor.{band}
+use Rattle.method.proofs.BandLaws.{reached_number}
 use Rattle.method.proofs.layout.band.Goals as goal
 
 pub returns : goal.returns
+unfolding band
 returns c =
-    let limits : List ℕ = 33 ∷ 66 ∷ 100 ∷ 133 ∷ [] in
-    let test : ℕ → Bool = λ limit. eqb (reached c.args.end limit) 1 in
-    let counted = count_from_yields_List c.filter.result c.count.result c.count.ensures.ran (YieldsList-from_filter _ test (YieldsList-from_slice limits (search rules)) c.filter.ensures.closure (λ x b q k. search (rules, tests))) in
-    counted ∙ length-filter test limits ∙ band_counted _
+    rw (
+      c.from.ensures,
+      c.from-2.ensures,
+      c.from-3.ensures,
+      c.from-4.ensures,
+      c.reached.ensures,
+      c.reached-2.ensures,
+      c.reached-3.ensures,
+      c.reached-4.ensures,
+      reached_number c.args.end 33,
+      reached_number c.args.end 66,
+      reached_number c.args.end 100,
+      reached_number c.args.end 133,
+    )
