@@ -1,7 +1,8 @@
 -- Printed tables: an element by its number, and rules that hold throughout a table by one test that is computed. Assumes nothing.
-use Rattle.std.proofs.Common.{◌≡◌, refl, sym, ap, subst, Bool, true, false, not, ◌&&◌, ◌||◌, List, [], ◌∷◌, ◌++◌, ℕ, zero, suc, ◌-◌, ◌<◌, ◌≤◌, Option, None, Some, Bor, slice_get, unwrap_or, zero-le, arith, length, get_or, T, eqb, leb}
+use Rattle.std.proofs.Common.{◌≡◌, refl, sym, ap, ◌∙◌, subst, Bool, true, false, not, ◌&&◌, ◌||◌, List, [], ◌∷◌, ◌++◌, ℕ, zero, suc, ◌+◌, ◌-◌, ◌*◌, ◌<◌, ◌≤◌, mul-suc, get_or-append-add, eqb-true, Option, None, Some, Bor, slice_get, unwrap_or, zero-le, arith, length, get_or, T, eqb, leb}
+use mathlib.Core.List.{flatten}
 use native.Mathlib.Decide.{dec_lt}
-use lib.ListN.{get_or-eq_default}
+use lib.ListN.{get_or-eq_default, get_or-append}
 use Rattle.std.proofs.lemmas.Bool.{and_parts}
 use Rattle.std.proofs.lemmas.Option.{unwrap_or-slice_get, slice_get_past, slice_get_read}
 use Rattle.std.specs.Option.{option_copied}
@@ -25,6 +26,13 @@ module _ {A : Type 0} (list : List A) where
   unfolding numbered
   numbered_is zero before some same = absurd (omega arith)
   numbered_is (suc n) before some same = ap (slice_get list) (omega arith)
+
+  -- And by the bound that is tested where an element is read.
+  pub numbered_past : (n : ℕ) → 1 ≤ n → length list ≤ n - 1 → None ≡ numbered list n
+  numbered_past n some past = sym (slice_get_past list (n - 1) past) ∙ numbered_is n (n - 1) some refl
+
+  pub numbered_read : (n : ℕ) → 1 ≤ n → (item : A) → n - 1 < length list → item ≡ get_or list (n - 1) item → Some item ≡ numbered list n
+  numbered_read n some item inside read = sym (slice_get_read list (length list) (n - 1) item refl inside read) ∙ numbered_is n (n - 1) some refl
 
   -- What `get` lends, as an option.
   pub item_read : (i : ℕ) (item : Option (Bor A)) → IsItemAt list i item → option_copied item ≡ slice_get list i
@@ -89,6 +97,20 @@ short most line = leb (length line) most
 -- The test that a line has just so many elements.
 abbrev pub full : {A : Type 0} → ℕ → List A → Bool
 full size line = eqb (length line) size
+
+-- Lines of one length, one after the other: an element by the line and the place in it.
+pub get_or_flatten : {A : Type 0} (size : ℕ) (lines : List (List A)) → every (full size) lines ≡ true → (n i : ℕ) (none : A) → i < size
+    → get_or (flatten lines) (size * n + i) none ≡ get_or (get_or lines n []) i none
+unfolding flatten
+get_or_flatten size [] h n i none less = refl
+get_or_flatten size (line ∷ lines) h zero i none less =
+    let long = eqb-true (length line) size (and_parts (full size line) (every (full size) lines) h).0 in
+    ap (λ (k : ℕ). get_or (line ++ flatten lines) k none) (omega arith) ∙ get_or-append line (flatten lines) none i (omega arith)
+get_or_flatten size (line ∷ lines) h (suc n) i none less =
+    let both = and_parts (full size line) (every (full size) lines) h in
+    let long = eqb-true (length line) size both.0 in
+    ap (λ (k : ℕ). get_or (line ++ flatten lines) k none) (omega (arith, mul-suc size n)) ∙ get_or-append-add line (flatten lines) (size * n + i) none
+    ∙ get_or_flatten size lines both.1 n i none less
 
 -- A test that every number below a bound passes.
 unfoldable pub every_below : ℕ → (ℕ → Bool) → Bool

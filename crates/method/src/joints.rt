@@ -55,7 +55,7 @@ fn shared_row(joint: u32) -> u32
 fn at_foundation(printed: &[u8; 3], foundation: u32) -> u8
     ensures { result ≡ nth printed.now foundation 0 }
 {
-    numbered(printed, foundation).copied().unwrap_or(0)
+    numbered(printed, foundation).unwrap_or(0)
 }
 
 // The entries of a foundation in a joint's line. They are written out: with `map` it was tried, and what the
@@ -81,8 +81,16 @@ fn row_in<const LINES: usize>(
 ) -> Option<[u8; 4]>
     ensures { unwrap_or result (0 ∷ 0 ∷ 0 ∷ 0 ∷ []) ≡ entries (entry_in tables.now snow foundation line) }
 {
-    let line = numbered(tables.get(snow as usize)?, line)?;
-    Some(row_of(line, foundation))
+    let at = snow as usize;
+    if tables.len() <= at {
+        return None;
+    }
+    let table: &[Line] = &tables[at];
+    let number = line as usize;
+    if number < 1 || table.len() < number {
+        return None;
+    }
+    Some(row_of(&table[number - 1], foundation))
 }
 
 // The printed entries at 2.0, 3.0, 5.0 and 7.0 kN/m for a joint in a storey, where there is such a table and
@@ -93,7 +101,13 @@ fn row(house: House, storey: u32, joint: u32) -> Option<[u8; 4]>
     let snow = house.snow;
     let foundation = foundation_used(house, storey);
     match Position::of(house, storey) {
-        Position::TopStorey => numbered(TOP_STOREY.get(snow as usize)?, joint).copied(),
+        Position::TopStorey => {
+            let at = snow as usize;
+            if TOP_STOREY.len() <= at {
+                return None;
+            }
+            numbered(&TOP_STOREY[at], joint)
+        }
         Position::OtherStorey => row_in(&OTHER_STOREY, snow, foundation, joint),
         Position::OneStorey => row_in(&ONE_STOREY, snow, foundation, shared_row(joint)),
     }

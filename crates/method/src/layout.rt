@@ -86,8 +86,10 @@ pub fn floor_type(storey: Storey) -> u32
 fn printed_factor(ends: Bands, floor: u32) -> Option<u8>
     ensures { unwrap_or result 0 ≡ layout_factor ends floor }
 {
-    let pair = LAYOUT_FACTORS.get(ends.a as usize)?.get(ends.b as usize)?;
-    numbered(pair, floor).copied()
+    if 5 <= ends.a || 5 <= ends.b {
+        return None;
+    }
+    numbered(&LAYOUT_FACTORS[ends.a as usize][ends.b as usize], floor)
 }
 
 // The layout factor for the bands of both ends and a floor type, in hundredths; 0 where there is no such

@@ -42,14 +42,14 @@ fn constant(part: HousePart, weight: u32) -> Option<u8>
     }
     let above = part.storeys.checked_sub(part.storey)?;
     let line = top_line(part.storeys) + above;
-    numbered(&CONSTANTS[line as usize], weight).copied()
+    numbered(&CONSTANTS[line as usize], weight)
 }
 
 // The addition by the house's snow, where there is one.
 fn snow_addition(snow: u32) -> Option<u8>
     ensures { unwrap_or result 0 ≡ snow_addition snow }
 {
-    numbered(&SNOW_ADDITIONS, snow).copied()
+    numbered(&SNOW_ADDITIONS, snow)
 }
 
 // The constant with the addition, which together are beyond a u8; 0 for each that there is not.

@@ -33,5 +33,10 @@ pub(crate) fn some_above(held: [u64; 6], storeys: u32) -> bool
     ensures { result ≡ some_above storeys held }
 {
     let count = 2 * storeys as usize;
-    held[..count].iter().any(|&total| MOST_HELD < total)
+    for &total in &held[..count] {
+        if MOST_HELD < total {
+            return true;
+        }
+    }
+    false
 }

@@ -11,7 +11,10 @@ fn any_cell(table: &[u32], row: usize, column: usize) -> Option<u32>
     ensures { unwrap_or result 0 ≡ cell table.now row column }
 {
     let at = row.checked_mul(ROW)?.checked_add(column)?;
-    table.get(at).copied()
+    if table.len() <= at {
+        return None;
+    }
+    Some(table[at])
 }
 
 // The number in a row and a column, both from 0; 0 beyond the table. Any table, row and column will do,

@@ -105,7 +105,7 @@ fn code_for_arm64_touches_every_page_of_the_stack() {
 }
 
 /// Its stack is as large as the page says and stands first in memory, before everything else: the manual's tables, which end
-/// within 544 bytes, and what is left for the host.
+/// within 496 bytes, and what is left for the host.
 #[test]
 fn under_node_the_module_has_the_functions_of_the_header_and_no_more() {
     let program = "const module = new WebAssembly.Module(fs.readFileSync(process.argv[1]));
@@ -118,7 +118,7 @@ fn under_node_the_module_has_the_functions_of_the_header_and_no_more() {
     let mut expected = header::functions();
     expected.extend(["__heap_base", "memory"]);
     expected.sort_unstable();
-    assert_eq!(text(&output.stdout), expected.join("\n") + " 0 66080\n");
+    assert_eq!(text(&output.stdout), expected.join("\n") + " 0 66032\n");
     assert!(page::says("The module has a stack of 64 KB"));
 }
 

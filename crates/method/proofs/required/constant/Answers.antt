@@ -11,5 +11,5 @@ returns-in_err-above c = rw c.from_residual.ensures (constant_none _ _ (λ some 
 
 pub returns : goal.returns
 returns c =
-    rw (c.copied.ensures, c.numbered.ensures, c.top_line.ensures, c.in_ok-above.ensures.1)
+    rw (c.numbered.ensures, c.top_line.ensures, c.in_ok-above.ensures.1)
     (constant_numbered _ _ (omega arith) c.in_ok-above.ensures.0 (omega arith))
