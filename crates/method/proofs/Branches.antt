@@ -10,6 +10,11 @@ pub cond_least : (t : Bool) {a b least : ℕ} → (t ≡ true → least ≤ a) �
 cond_least true one other = one refl
 cond_least false one other = other refl
 
+-- A choice between two numbers that are one.
+pub cond_same : (t : Bool) {a b c : ℕ} → a ≡ b → a ≡ c → a ≡ cond t b c
+cond_same true one other = one
+cond_same false one other = other
+
 -- A choice between two numbers that both pass a test.
 pub cond_every : (passes : ℕ → Bool) (t : Bool) {a b : ℕ} → passes a ≡ true → passes b ≡ true → passes (cond t a b) ≡ true
 cond_every passes true one other = one

@@ -1,13 +1,15 @@
 -- The joint factor: which printed entry it takes, and that it never exceeds 100. Assumes nothing.
-use Rattle.std.proofs.Common.{◌≡◌, refl, ap, ◌∙◌, Option, None, Some, Bool, true, false, ◌&&◌, List, [], ◌∷◌, ℕ, zero, suc, ◌-◌, ◌*◌, ◌<◌, ◌≤◌, le_of_suc-le-suc, mul-le-mul_right, div-lt_iff_lt-mul, arith, length, get_or, unwrap_or, eqb, ltb, leb-true, eqb-true, ltb-true, ltb-false}
+use Rattle.std.proofs.Common.{◌≡◌, refl, sym, ap, ◌∙◌, Option, None, Some, Bool, true, false, ◌&&◌, List, [], ◌∷◌, ℕ, zero, suc, ◌-◌, ◌*◌, ◌<◌, ◌≤◌, zero-le, lit≤, le-leb, ne_eqb, le_trans, le_of_suc-le-suc, mul-le-mul_right, div-lt_iff_lt-mul, arith, length, get_or, unwrap_or, eqb, ltb, leb-true, eqb-true, ltb-true, ltb-false}
+use lib.ListN.{get_or-eq_default}
+use borrow.Author.Tests.{eqb-false}
 use Rattle.std.proofs.lemmas.Bool.{and_parts}
 use Rattle.method.specs.declared.rows.House.{House}
 use Rattle.method.specs.declared.rows.Wall.{Wall}
 use Rattle.method.specs.Printed.{nth, numbered}
 use Rattle.method.specs.JointTables.{top_storey, other_storey, one_storey, at2, at3, at5, at7}
 use Rattle.method.specs.Held.{position, foundation_used, shared_row, top_entry, entry_in, entry, entries, interpolated, row_factor, joint_factor}
-use Rattle.method.proofs.Branches.{cond_most, cond_every}
-use Rattle.method.proofs.Tables.{nth_none, numbered_nth, numbered_empty, every, get_or_every, nth_every, small, full}
+use Rattle.method.proofs.Branches.{cond_most, cond_least, cond_same, cond_every}
+use Rattle.method.proofs.Tables.{nth_none, numbered_nth, numbered_empty, every, get_or_every, nth_every, small, short, full}
 
 -- A test that every printed entry passes, of all snows and positions.
 abbrev every_top : (ℕ → Bool) → Bool
@@ -51,6 +53,66 @@ all_small = refl
 
 pub entry_most : (snow position foundation joint column : ℕ) → entry snow position foundation joint column ≤ 100
 entry_most snow position foundation joint column = leb-true _ 100 (entry_every (small 100) refl snow position foundation joint column all_small)
+
+-- The table of one storey has three lines.
+pub shared_some : (joint : ℕ) → 1 ≤ joint → 1 ≤ shared_row joint
+unfolding shared_row
+shared_some joint some = cond_least (eqb joint 4) (λ e. lit≤ tt) (λ e. some)
+
+pub shared_most : (joint : ℕ) → joint ≤ 4 → shared_row joint ≤ 3
+unfolding shared_row
+shared_most joint most = cond_most (eqb joint 4) (λ e. lit≤ tt) (λ e. omega (arith, most, eqb-false joint 4 e))
+
+-- Where there is no printed entry, in any column.
+module _ (snow position foundation joint : ℕ) where
+  no_line : {A : Type 0} (tables : List (List (List A))) (most line : ℕ) → every (short most) tables ≡ true → (1 ≤ line → line ≤ most → ⊥)
+      → nth (get_or tables snow []) line [] ≡ []
+  no_line tables most line h none =
+      let lines = leb-true _ most (get_or_every (short most) (le-leb 0 most zero-le) tables h snow) in
+      nth_none (get_or tables snow []) line [] (λ some last. none some (le_trans last lines))
+
+  no_foundation : (tables : List (List (List (List ℕ)))) → every (every (every (short 3))) tables ≡ true → (line : ℕ)
+      → (1 ≤ foundation → foundation ≤ 3 → ⊥) → (column : ℕ) → 0 ≡ entry_in tables snow foundation line column
+  unfolding entry_in
+  no_foundation tables h line none column =
+      let table = get_or tables snow [] in
+      let row = nth table line [] in
+      let cell = get_or row column [] in
+      let Short_row = nth_every (every (short 3)) refl table (get_or_every (every (every (short 3))) refl tables h snow) line in
+      let three : length cell ≤ 3 = leb-true _ 3 (get_or_every (short 3) refl row Short_row column) in
+      sym (nth_none cell foundation 0 (λ some most. none some (le_trans most three)))
+
+  pub entry_no_snow : 4 ≤ snow → (column : ℕ) → 0 ≡ entry snow position foundation joint column
+  unfolding entry top_entry entry_in nth
+  entry_no_snow beyond column =
+      rw (
+        get_or-eq_default top_storey [] beyond,
+        get_or-eq_default other_storey [] beyond,
+        get_or-eq_default one_storey [] beyond,
+        nth_none {A = List ℕ} [] joint [] (λ some most. omega arith),
+        nth_none {A = List (List ℕ)} [] joint [] (λ some most. omega arith),
+        nth_none {A = List (List ℕ)} [] (shared_row joint) [] (λ some most. omega arith),
+        nth_none {A = ℕ} [] foundation 0 (λ some most. omega arith),
+      )
+      (cond_same (eqb position 1) refl (cond_same (eqb position 2) refl refl))
+
+  pub entry_no_joint : (1 ≤ joint → joint ≤ 4 → ⊥) → (column : ℕ) → 0 ≡ entry snow position foundation joint column
+  unfolding entry top_entry entry_in shared_row nth
+  entry_no_joint none column =
+      rw (
+        no_line top_storey 4 joint refl none,
+        no_line other_storey 4 joint refl none,
+        ne_eqb joint 4 (λ e. none (omega arith) (omega arith)),
+        no_line one_storey 3 joint refl (λ some most. none some (omega arith)),
+        nth_none {A = ℕ} [] foundation 0 (λ some most. omega arith),
+      )
+      (cond_same (eqb position 1) refl (cond_same (eqb position 2) refl refl))
+
+  pub entry_no_foundation : (position ≡ 1 → ⊥) → (1 ≤ foundation → foundation ≤ 3 → ⊥) → (column : ℕ) → 0 ≡ entry snow position foundation joint column
+  unfolding entry
+  entry_no_foundation below none column =
+      rw (ne_eqb position 1 below)
+      (cond_same (eqb position 2) (no_foundation other_storey refl joint none column) (no_foundation one_storey refl (shared_row joint) none column))
 
 -- The code's row where there is none.
 abbrev none_printed : List ℕ

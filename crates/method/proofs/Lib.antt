@@ -1,5 +1,6 @@
 -- The laws about the method's definitions that other crates cite, its theorems on one page, and these used.
 pub mod Branches
+pub mod Products
 pub mod Tables
 pub mod Factors
 pub mod Cases

@@ -1,12 +1,17 @@
 -- The required strength never falls with weight class, zone, ground or snow, is positive, and has a most. Assumes nothing.
-use Rattle.std.proofs.Common.{◌≡◌, refl, Bool, true, not, ◌&&◌, ◌||◌, List, [], ℕ, ◌+◌, ◌-◌, ◌*◌, ◌<◌, ◌≤◌, zero-le, add-le-add, mul-le-mul, mul-pos, le_refl, le_trans, arith, get_or, unwrap_or, leb, ltb, lit≤, leb-true, ltb-true, ltb-false, le-leb, le-ltb}
+use Rattle.std.proofs.Common.{◌≡◌, refl, sym, Bool, true, not, ◌&&◌, ◌||◌, List, [], ℕ, ◌+◌, ◌-◌, ◌*◌, ◌<◌, ◌≤◌, zero-le, add-le-add, mul-le-mul, mul-pos, le_refl, le_trans, arith, length, get_or, unwrap_or, eqb, leb, ltb, lit≤, leb-true, ltb-true, ltb-false, le-leb, le-ltb}
 use Rattle.std.proofs.lemmas.Bool.Decides.{nat_tests}
 use Rattle.method.specs.declared.rows.House.{House}
 use Rattle.method.specs.declared.rows.HousePart.{HousePart}
 use Rattle.method.specs.Printed.{nth, numbered}
 use Rattle.method.specs.Required.{constants, snow_additions, top_line, constant, snow_addition, per_area, ground_factor, narrow_factor, required_strength, most_required}
-use Rattle.method.proofs.Tables.{numbered_nth, implied, every, get_or_every, nth_every, small, every_below, at_every}
-use Rattle.method.proofs.Branches.{cond_most, cond_least}
+use Rattle.method.proofs.Tables.{nth_none, numbered_nth, implied, every, get_or_every, nth_every, small, short, every_below, at_every}
+use Rattle.method.proofs.Branches.{cond_most, cond_least, cond_same}
+
+-- Three storeys begin at line 3, and no number of storeys later.
+pub top_line_most : (storeys : ℕ) → top_line storeys ≤ 3
+unfolding top_line
+top_line_most storeys = cond_most (eqb storeys 1) (λ e. lit≤ tt) (λ e. cond_most (eqb storeys 2) (λ d. lit≤ tt) (λ d. lit≤ tt))
 
 -- What the constant is, by the line of the table that holds it.
 module _ (part : HousePart) (weight : ℕ) where
@@ -19,6 +24,12 @@ module _ (part : HousePart) (weight : ℕ) where
   pub constant_none : (1 ≤ part.storey → part.storey ≤ part.storeys → part.storeys ≤ 3 → ⊥) → 0 ≡ constant part weight
   unfolding constant
   constant_none none = grind (arith, nat_tests)
+
+  pub constant_no_class : (1 ≤ weight → weight ≤ 3 → ⊥) → 0 ≡ constant part weight
+  unfolding constant
+  constant_no_class none =
+      let three : length (get_or constants line []) ≤ 3 = leb-true _ 3 (get_or_every (short 3) refl constants refl line) in
+      cond_same known (sym (nth_none (get_or constants line []) weight 0 (λ some most. none some (le_trans most three)))) refl
 
   pub constant_numbered : 1 ≤ part.storey → part.storey ≤ part.storeys → part.storeys ≤ 3
       → unwrap_or (numbered (get_or constants line []) weight) 0 ≡ constant part weight
@@ -75,6 +86,10 @@ constant_rises part {lighter} {weight} heavier last =
     (λ e. rw e (line_rises (get_or constants at []) (get_or_every rising none_rising constants all_rising at) heavier last)) (λ e. zero-le)
 
 -- What the addition for snow is; it never falls with deeper snow, and is at most 65.
+pub addition_none : (snow : ℕ) → (1 ≤ snow → snow ≤ 3 → ⊥) → 0 ≡ snow_addition snow
+unfolding snow_addition
+addition_none snow none = sym (nth_none snow_additions snow 0 none)
+
 pub addition_numbered : (snow : ℕ) → unwrap_or (numbered snow_additions snow) 0 ≡ snow_addition snow
 unfolding snow_addition
 addition_numbered snow = numbered_nth snow_additions snow 0
