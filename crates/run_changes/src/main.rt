@@ -7,22 +7,26 @@
 // numbers stand one space apart. Rows of the table are printed where the script says so. What is printed is tested,
 // against the file stdout.
 //
-// Uses `answer`, `files`, `sheet`, `method`, `diagnosis`, `site` and std. Of a file that can't be read it tells on
+// Uses `answer`, `sheet`, `method`, `diagnosis`, `site` and std. Of a file that can't be read it tells on
 // standard error, and plays the next script; where it can't print, it ends with status 1.
 #![tactic(auto)]
 
 use answer::{MOST_NUMBERS, ROW, Refusal};
 use diagnosis::Record;
-use files::{print_row, run_file};
 use method::Quotient;
 use site::Totals;
-use std::{env, io};
+use std::io::Read;
+use std::rt::Files;
+use std::{env, fs, io};
 
 // The numbers of a table that is two rows longer than the longest.
 const TABLE: usize = MOST_NUMBERS + 2 * ROW;
 
 // One more than the largest number of a line.
 const FIELD: u64 = 100_000_000;
+
+// A longer file is cut there, at a length that is still refused.
+const MOST_INPUT: u64 = 65_536;
 
 // A change on site.
 #[derive(Clone, Copy)]
@@ -81,6 +85,10 @@ impl Step<'_> {
             _ => None,
         }
     }
+}
+
+fn print_row(rt: &impl Print, row: [u32; ROW]) -> io::Result<()> {
+    rt.write_all(&sheet::print_line(row))
 }
 
 fn print_record(rt: &impl Print, found: &Record) -> io::Result<()> {
@@ -216,14 +224,35 @@ fn play(rt: &impl Print, house: &[u8], script: &[u8]) -> io::Result<()> {
     }
 }
 
+// Each program that runs files has its own lines that read one: no contract can say what they answer.
+fn read_file(rt: &(impl Files + AllocGlobal), path: &str) -> io::Result<Vec<u8>> {
+    let mut bytes = Vec::new(rt.alloc());
+    fs::open(rt, path)?
+        .take(MOST_INPUT)
+        .read_to_end(&mut bytes)?;
+    Ok(bytes)
+}
+
+// Plays a script on a house, each the file of that name.
+fn run(
+    rt: &(impl Files + AllocGlobal + Print + Eprint),
+    house: &str,
+    script: &str,
+) -> io::Result<()> {
+    println!(rt; "{house} {script}")?;
+    match read_file(rt, house) {
+        Ok(lines) => match read_file(rt, script) {
+            Ok(steps) => play(rt, &lines, &steps),
+            Err(error) => eprintln!(rt; "{script}: {error}"),
+        },
+        Err(error) => eprintln!(rt; "{house}: {error}"),
+    }
+}
+
 fn main(rt: HostRuntime) -> io::Result<()> {
     let mut words = env::args(&rt)?.skip(1);
     while let (Some(house), Some(script)) = (words.next(), words.next()) {
-        let (house, script) = (house.as_str(), script.as_str());
-        println!(rt; "{house} {script}")?;
-        run_file(&rt, house, |house| {
-            run_file(&rt, script, |script| play(&rt, house, script))
-        })?;
+        run(&rt, &house, &script)?;
     }
     Ok(())
 }

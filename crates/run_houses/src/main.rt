@@ -11,9 +11,14 @@
 
 use answer::{MOST_NUMBERS, ROW};
 use diagnosis::{MOST_REPORT_BYTES, Record};
-use files::{print_answer, run_file};
+use files::answer_row;
 use method::Quotient;
-use std::{env, io};
+use std::io::Read;
+use std::rt::Files;
+use std::{env, fs, io};
+
+// A longer file is cut there, at a length that is still refused.
+const MOST_INPUT: u64 = 65_536;
 
 // Prints what the scoring program prints for a sheet, and answers the count of the report's bytes, if there is
 // a report.
@@ -62,7 +67,8 @@ fn lend(rt: &impl Print, sheet: &[u8], room: usize) -> io::Result<()> {
     let Some(lent) = report.get_mut(..room) else {
         return Ok(());
     };
-    print_answer(rt, diagnosis::diagnose(sheet, lent))
+    let row = answer_row(diagnosis::diagnose(sheet, lent));
+    rt.write_all(&sheet::print_line(row))
 }
 
 fn run_sheet(rt: &impl Print, sheet: &[u8]) -> io::Result<()> {
@@ -75,11 +81,27 @@ fn run_sheet(rt: &impl Print, sheet: &[u8]) -> io::Result<()> {
     lend(rt, sheet, 0)
 }
 
+// Each program that runs files has its own lines that read one: no contract can say what they answer.
+fn read_file(rt: &(impl Files + AllocGlobal), path: &str) -> io::Result<Vec<u8>> {
+    let mut bytes = Vec::new(rt.alloc());
+    fs::open(rt, path)?
+        .take(MOST_INPUT)
+        .read_to_end(&mut bytes)?;
+    Ok(bytes)
+}
+
+// Runs the file of that name.
+fn run(rt: &(impl Files + AllocGlobal + Print + Eprint), path: &str) -> io::Result<()> {
+    println!(rt; "{path}")?;
+    match read_file(rt, path) {
+        Ok(sheet) => run_sheet(rt, &sheet),
+        Err(error) => eprintln!(rt; "{path}: {error}"),
+    }
+}
+
 fn main(rt: HostRuntime) -> io::Result<()> {
     for path in env::args(&rt)?.skip(1) {
-        let path = path.as_str();
-        println!(rt; "{path}")?;
-        run_file(&rt, path, |sheet| run_sheet(&rt, sheet))?;
+        run(&rt, &path)?;
     }
     Ok(())
 }

@@ -13,13 +13,18 @@ ghost use Rattle.answer.specs.Told.{told};
 ghost use Rattle.run_sheets.specs.Again.{again, after_again};
 
 use answer::{Answer, MOST_NUMBERS};
-use files::{print_answer, print_row, run_file};
-use std::{env, io};
+use files::answer_row;
+use std::io::Read;
+use std::rt::Files;
+use std::{env, fs, io};
 
 // The numbers of a sheet that is a line longer than the longest, and its bytes.
 const TABLE: usize = MOST_NUMBERS + sheet::ROW;
 
 const BYTES: usize = (answer::MOST_ROWS + 1) * sheet::LINE;
+
+// A longer file is cut there, at a length that is still refused.
+const MOST_INPUT: u64 = 65_536;
 
 // Reads a sheet into the table and writes the rows that were read into the bytes.
 fn again(sheet: &[u8], table: &mut [u32], bytes: &mut [u8]) -> Answer
@@ -29,6 +34,10 @@ fn again(sheet: &[u8], table: &mut [u32], bytes: &mut [u8]) -> Answer
     let rows = sheet::read(sheet, table)?;
     let end = sheet::ROW * rows as usize;
     sheet::write(&table[..end], bytes)
+}
+
+fn print_row(rt: &impl Print, row: [u32; sheet::ROW]) -> io::Result<()> {
+    rt.write_all(&sheet::print_line(row))
 }
 
 // Prints what a sheet comes to: itself, or the refusal's line.
@@ -51,7 +60,7 @@ fn lend(rt: &impl Print, sheet: &[u8], numbers: usize, room: usize) -> io::Resul
     let (Some(table), Some(bytes)) = (table.get_mut(..numbers), bytes.get_mut(..room)) else {
         return Ok(());
     };
-    print_answer(rt, again(sheet, table, bytes))
+    print_row(rt, answer_row(again(sheet, table, bytes)))
 }
 
 // Enough lent; just enough for twelve lines; a number short; a byte short; nothing.
@@ -73,13 +82,37 @@ fn run_sheet(rt: &impl Print, sheet: &[u8], lendings: bool) -> io::Result<()> {
     print_again(rt, sheet, &mut table, &mut bytes)
 }
 
+// Each program that runs files has its own lines that read one: no contract can say what they answer.
+fn read_file(rt: &(impl Files + AllocGlobal), path: &str) -> io::Result<Vec<u8>> {
+    let mut bytes = Vec::new(rt.alloc());
+    fs::open(rt, path)?
+        .take(MOST_INPUT)
+        .read_to_end(&mut bytes)?;
+    Ok(bytes)
+}
+
+// Runs one file.
+fn run(
+    rt: &(impl Files + AllocGlobal + Print + Eprint),
+    path: &str,
+    lendings: bool,
+) -> io::Result<()> {
+    match read_file(rt, path) {
+        Ok(sheet) => {
+            println!(rt; "{path}")?;
+            run_sheet(rt, &sheet, lendings)
+        }
+        Err(error) => eprintln!(rt; "{path}: {error}"),
+    }
+}
+
 // Writes the front of a table into so many bytes, and prints the answer.
 fn write_front(rt: &impl Print, table: &[u32], length: usize, room: usize) -> io::Result<()> {
     let mut bytes = [0u8; BYTES];
     let (Some(front), Some(bytes)) = (table.get(..length), bytes.get_mut(..room)) else {
         return Ok(());
     };
-    print_answer(rt, sheet::write(front, bytes))
+    print_row(rt, answer_row(sheet::write(front, bytes)))
 }
 
 // The same for a table of zeros but for one number at two places.
@@ -126,10 +159,7 @@ fn main(rt: HostRuntime) -> io::Result<()> {
         match word.as_str() {
             "--lendings" => lendings = true,
             "--tables" => run_tables(&rt)?,
-            path => run_file(&rt, path, |sheet| {
-                println!(rt; "{path}")?;
-                run_sheet(&rt, sheet, lendings)
-            })?,
+            path => run(&rt, path, lendings)?,
         }
     }
     Ok(())

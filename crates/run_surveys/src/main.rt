@@ -4,14 +4,15 @@
 // to 4, of which there are none. After one of the words below, tables are run in another way. What is
 // printed is tested, against the file stdout.
 //
-// Uses `answer`, `files`, `sheet`, `survey` and std. Of a sheet that can't be read it tells on standard error,
-// and runs the next; where it can't print, it ends with status 1.
+// Uses `answer`, `sheet`, `survey` and std. Of a sheet that can't be read it tells on standard error, and
+// runs the next; where it can't print, it ends with status 1.
 #![tactic(auto)]
 
 use answer::{MOST_NUMBERS, MOST_ROWS, ROW};
-use files::{print_row, run_file};
+use std::io::Read;
+use std::rt::Files;
 use std::str::FromStr;
-use std::{env, io};
+use std::{env, fs, io};
 use survey::{storey_run, storey_walls};
 
 // How a table is run. No function may hand out a closure for a word, so each way is a case here, and one `match`
@@ -56,6 +57,13 @@ const BYTES: usize = MOST_ROWS * sheet::LINE;
 
 // The numbers of a table that is a row longer than the longest.
 const TABLE: usize = MOST_NUMBERS + ROW;
+
+// A longer file is cut there, at a length that is still refused.
+const MOST_INPUT: u64 = 65_536;
+
+fn print_row(rt: &impl Print, row: [u32; ROW]) -> io::Result<()> {
+    rt.write_all(&sheet::print_line(row))
+}
 
 // How many rows a part has; the last six digits of that.
 fn rows_of(part: &[u32]) -> u32 {
@@ -163,16 +171,31 @@ fn run_sheet(rt: &impl Print, sheet: &[u8], way: Way) -> io::Result<()> {
     }
 }
 
+// Each program that runs files has its own lines that read one: no contract can say what they answer.
+fn read_file(rt: &(impl Files + AllocGlobal), path: &str) -> io::Result<Vec<u8>> {
+    let mut bytes = Vec::new(rt.alloc());
+    fs::open(rt, path)?
+        .take(MOST_INPUT)
+        .read_to_end(&mut bytes)?;
+    Ok(bytes)
+}
+
+// Runs one file.
+fn run(rt: &(impl Files + AllocGlobal + Print + Eprint), path: &str, way: Way) -> io::Result<()> {
+    println!(rt; "{path}")?;
+    match read_file(rt, path) {
+        Ok(sheet) => run_sheet(rt, &sheet, way),
+        Err(error) => eprintln!(rt; "{path}: {error}"),
+    }
+}
+
 fn main(rt: HostRuntime) -> io::Result<()> {
     let mut way = Way::Judged;
     for word in env::args(&rt)?.skip(1) {
         let word = word.as_str();
         match word.parse::<Way>() {
             Ok(named) => way = named,
-            Err(NoWay) => {
-                println!(rt; "{word}")?;
-                run_file(&rt, word, |sheet| run_sheet(&rt, sheet, way))?;
-            }
+            Err(NoWay) => run(&rt, word, way)?,
         }
     }
     Ok(())
