@@ -1,9 +1,10 @@
 -- Laws on lists: stores that fill a list, storage that is written from its front, parts that are joined. Assumes nothing.
 use Rattle.std.proofs.Common.{◌≡◌, refl, sym, ap, ap₂, ◌∙◌, List, [], ◌∷◌, ◌++◌, append_assoc, append-nil, ℕ, zero, suc, ◌+◌, ◌*◌, ◌-◌, ◌<◌, ◌≤◌, add-zero, add-suc, le_refl, mul-suc, mul-zero, mul-le-mul_left, not-suc-le-zero, add-one, arith, length, get_or, take, drop, set, length-append, length-drop, drop_of_length-le, take_at, drop_at, drop-drop, take_all, take-take, length-take-le, take-add, take-suc}
+use native.Mathlib.Nat.{sub-zero}
 use native.Mathlib.Decide.{dec_lt}
 use lib.Seq.{sets, sets-eq, set_split, take-append-le, drop-append-le, append_snoc}
 use borrow.Rule.Slice.PartMut.{put_mid, post_of, Post-is}
-use Rattle.answer.proofs.Parts.{part_size, part_element}
+use Rattle.answer.proofs.Parts.{lent_part, part_size, part_element}
 use Rattle.answer.specs.Lists.{joined, part, over}
 
 -- As many stores as there are elements leave nothing of them.
@@ -41,6 +42,11 @@ pub over_more : (lent x l : List ℕ) (at : ℕ) → at < length x → length x 
 over_more lent x l at inside fits e =
     rw (e, add-one, take-suc x at 0 inside) (over_set lent (take at x) (get_or x at 0) at (length-take-le at x (omega arith)) (omega arith))
 
+-- What is written is the front of the storage, as the code lends it.
+pub over_front : (lent x : List ℕ) (n : ℕ) → length x ≡ n → take (n - 0) (over lent x) ≡ x
+unfolding over
+over_front lent x n e = rw sub-zero (take_at x (drop (length x) lent) n e)
+
 -- Storage that is written whole.
 pub over_whole : (lent x : List ℕ) → length x ≡ length lent → over lent x ≡ x
 unfolding over
@@ -56,6 +62,11 @@ part_put a size l y =
 pub part_length : (size i : ℕ) (l : List ℕ) → size * i + size ≤ length l → length (part size i l) ≡ size
 unfolding part
 part_length size i l h = part_size (size * i) size l h
+
+-- A part as the code lends it, from a start to an end.
+pub part_lent : (size i : ℕ) (l : List ℕ) → take (size * i + size - size * i) (drop (size * i) l) ≡ part size i l
+unfolding part
+part_lent size i l = lent_part (size * i) size l
 
 pub part_append : (size i : ℕ) (l m : List ℕ) → size * i + size ≤ length l → part size i (l ++ m) ≡ part size i l
 unfolding part

@@ -1,5 +1,5 @@
 -- The laws of `first`: which place it is, and what it says of the places before it. Assumes nothing.
-use Rattle.std.proofs.Common.{◌≡◌, refl, ap, Bool, true, false, cond, ℕ, zero, suc, ◌<◌, ◌≤◌, zero-le, suc-le-suc, le_of_suc-le-suc, not-suc-le-zero, zero-lt-suc}
+use Rattle.std.proofs.Common.{◌≡◌, refl, sym, ap, ◌∙◌, Bool, true, false, cond, ℕ, zero, suc, ◌<◌, ◌≤◌, zero-le, suc-le-suc, le_of_suc-le-suc, not-suc-le-zero, zero-lt-suc, arith}
 use Rattle.answer.specs.First.{first}
 
 -- The test holds at i and at no place before it.
@@ -17,6 +17,12 @@ unfolding first
 first_none test zero before = refl
 first_none test (suc n) before =
     rw (before 0 (zero-lt-suc n)) (ap suc (first_none (λ k. test (suc k)) n (λ k l. before (suc k) (suc-le-suc l))))
+
+-- A search that has passed every place.
+pub first_end : (test : ℕ → Bool) (n i : ℕ) → i ≤ n → n ≤ i → ((k : ℕ) → k < i → test k ≡ false) → i ≡ first test n
+first_end test n i most least before =
+    let all : i ≡ n = omega arith in
+    all ∙ sym (first_none test n (λ k l. before k (omega arith)))
 
 -- Before the first place the test does not hold.
 pub before_first : (test : ℕ → Bool) (n : ℕ) (k : ℕ) → k < first test n → test k ≡ false

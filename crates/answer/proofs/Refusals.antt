@@ -45,6 +45,12 @@ number_some NoSuchDay = lit< tt
 number_some DatesOutOfOrder = lit< tt
 number_some NoSuchWall = lit< tt
 
+-- Two refusals of any numbers that tell the same have the same number, row and column.
+pub refusal_same : (number row column number' row' column' : ℕ) → refusal number row column ≡ refusal number' row' column'
+    → (number ≡ number') × (row ≡ row') × (column ≡ column')
+refusal_same number row column number' row' column' e =
+    (ap (λ (t : Told). t.number) e, ap (λ (t : Told). t.row) e, ap (λ (t : Told). t.column) e)
+
 -- A refusal tells no count, whatever its number, not even one numbered 0 a count of 0.
 pub never_count : (number row column count : ℕ) → refusal number row column ≡ counted count → ⊥
 never_count number row column count e = subst T (ap (λ (t : Told). t.is_count) (sym e)) tt
@@ -55,7 +61,8 @@ told_same (Ok n) (Ok m) e = ap (λ (k : ℕ). Ok k) (ap (λ (t : Told). t.count)
 told_same (Ok n) (Err r) e = absurd (subst T (ap (λ (t : Told). t.is_count) e) tt)
 told_same (Err r) (Ok n) e = absurd (subst T (ap (λ (t : Told). t.is_count) (sym e)) tt)
 told_same (Err r) (Err r') e =
-    rw (number_same r.reason r'.reason (ap (λ (t : Told). t.number) e), ap (λ (t : Told). t.row) e, ap (λ (t : Told). t.column) e) refl
+    let same = refusal_same (number_of r.reason) r.row r.column (number_of r'.reason) r'.row r'.column e in
+    rw (number_same r.reason r'.reason same.0, same.1, same.2) refl
 
 -- An accepted answer has passed each test on its way.
 pub passed : (test : Bool) (refused otherwise : Told) → eqb refused.number 0 ≡ false → (cond test refused otherwise).number ≡ 0
