@@ -1,8 +1,9 @@
 -- Leap years, how many days a month has, and which dates there are. Assumes nothing.
-use Rattle.std.proofs.Common.{◌≡◌, refl, Bool, true, false, cond, ◌∷◌, ℕ, ◌+◌, ◌%◌, ◌<◌, ◌≤◌, arith, eqb, ltb, lit≤, get_or, ne_eqb, eqb-true, lt-ltb, ltb-true, le-leb, leb-true}
+use Rattle.std.proofs.Common.{◌≡◌, refl, sym, Bool, true, false, cond, ◌∷◌, ℕ, ◌+◌, ◌%◌, ◌<◌, ◌≤◌, arith, eqb, ltb, lit≤, get_or, eq-eqb, ne_eqb, eqb-true, lt-ltb, ltb-true, le-leb, leb-true}
 use Rattle.std.proofs.lemmas.Bool.{and_parts}
 use mathlib.Core.Bool.{and-false}
 use native.Mathlib.Decide.{ℕ_discrete}
+use lib.ListN.{get_or-eq_default}
 use borrow.Author.Tests.{lt-leb}
 use Rattle.calendar.specs.Days.{is_leap, month_lengths, days_in, is_date}
 
@@ -14,6 +15,16 @@ never_leap_after_ten year leap =
     rw (ne_eqb ((year + 10) % 4) 0 (λ e. omega arith))
 
 module _ (year month : ℕ) where
+  -- There is no such month.
+  pub days_none : 12 < month → 0 ≡ days_in year month
+  unfolding days_in
+  days_none above = rw (ne_eqb month 2 (λ e. omega arith)) (sym (get_or-eq_default (0 ∷ month_lengths) 0 above))
+
+  -- February of a leap year.
+  pub days_leap : month ≡ 2 → is_leap year ≡ true → 29 ≡ days_in year month
+  unfolding days_in
+  days_leap february leap = rw (eq-eqb month 2 february, leap)
+
   -- A month of another year, and a month that is not February.
   pub days_common : is_leap year ≡ false → get_or (0 ∷ month_lengths) month 0 ≡ days_in year month
   unfolding days_in
