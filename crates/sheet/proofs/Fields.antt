@@ -7,30 +7,39 @@ use native.Mathlib.Nat.{div-div-eq-div-mul, div-eq_of_lt, pow-le-pow_right}
 use borrow.Author.Tests.{eqb-false}
 use Rattle.sheet.specs.Field.{Field, Blank, Number, Misprint, is_digit, digit, after, digit_after, field, is_number, value, number_made, number_in, digit_or_space, printed}
 
+-- One character more, case by case.
+module _ {made : Field} (character : ℕ) where
+  pub after_space : made ≡ Blank → character ≡ 32 → Blank ≡ after made character
+  unfolding after
+  after_space e h = rw (e, eq-eqb character 32 h)
+
+  pub after_blank : made ≡ Blank → (character ≡ 32 → ⊥) → digit_after 0 character ≡ after made character
+  unfolding after
+  after_blank e h = rw (e, ne_eqb character 32 h)
+
+  pub after_zero : {n : ℕ} → made ≡ Number n → n ≡ 0 → Misprint ≡ after made character
+  unfolding after
+  after_zero {n} e h = rw (e, eq-eqb n 0 h)
+
+  pub after_number : {n : ℕ} → made ≡ Number n → (n ≡ 0 → ⊥) → digit_after n character ≡ after made character
+  unfolding after
+  after_number {n} e h = rw (e, ne_eqb n 0 h)
+
+  pub after_misprint : made ≡ Misprint → Misprint ≡ after made character
+  unfolding after
+  after_misprint e = rw e
+
+pub value_number : {made : Field} {n : ℕ} (most : ℕ) → made ≡ Number n → value made < most → n < most
+unfolding value
+value_number most e h = rw e at h
+
 -- What the code has for spaces alone and for a number.
 abbrev pub made : Option ℕ → Field
 made None = Blank
 made (Some n) = Number n
 
--- One character more, case by case.
+-- With the next digit, or what is none, as the code has it.
 module _ (character : ℕ) where
-  after_space : character ≡ 32 → after Blank character ≡ Blank
-  unfolding after
-  after_space h = rw (eq-eqb character 32 h)
-
-  after_blank : (character ≡ 32 → ⊥) → after Blank character ≡ digit_after 0 character
-  unfolding after
-  after_blank h = rw (ne_eqb character 32 h)
-
-  after_zero : after (Number 0) character ≡ Misprint
-  unfolding after
-  after_zero = refl
-
-  after_number : {n : ℕ} → (n ≡ 0 → ⊥) → after (Number n) character ≡ digit_after n character
-  unfolding after
-  after_number {n} h = rw (ne_eqb n 0 h)
-
-  -- With the next digit, or what is none, as the code has it.
   no_digit_after : (n : ℕ) → None ≡ digit character → digit_after n character ≡ Misprint
   unfolding digit digit_after
   no_digit_after n = go (is_digit character)
@@ -166,10 +175,7 @@ module _ (l : List ℕ) (k : ℕ) (number : Option ℕ) (so_far : made number �
 
   -- There is room for one digit more.
   pub room_for_digit : {n : ℕ} → k < 8 → number ≡ Some n → n < 10_000_000
-  unfolding value
-  room_for_digit {n} h e =
-      let small : value (made number) < 10_000_000 = rw so_far (field_small l k h) in
-      rw e at small
+  room_for_digit {n} h e = value_number 10_000_000 (ap made e) (rw so_far (field_small l k h))
 
   module _ (some : k < length l) where
     next_read : (next : Option ℕ) → after (made number) (get_or l k 0) ≡ made next → made next ≡ field (take (k + 1) l)
@@ -181,26 +187,26 @@ module _ (l : List ℕ) (k : ℕ) (number : Option ℕ) (so_far : made number �
 
     module _ (blank : number ≡ None) where
       pub space_read : get_or l k 0 ≡ 32 → made number ≡ field (take (k + 1) l)
-      space_read e = rw blank (next_read None (rw blank (after_space (get_or l k 0) e)))
+      space_read e = rw blank (next_read None (rw blank (sym (after_space (get_or l k 0) refl e))))
 
       module _ (other : get_or l k 0 ≡ 32 → ⊥) where
         pub first_digit_read : (d : ℕ) → Some d ≡ digit (get_or l k 0) → made (Some d) ≡ field (take (k + 1) l)
         first_digit_read d e =
             let none : 10 * 0 + d ≡ d = omega arith in
-            next_read (Some d) (rw blank (after_blank _ other ∙ some_digit_after _ 0 e ∙ ap Number none))
+            next_read (Some d) (rw blank (sym (after_blank _ refl other) ∙ some_digit_after _ 0 e ∙ ap Number none))
 
         pub first_digit_wrong : None ≡ digit (get_or l k 0) → None ≡ number_in l
-        first_digit_wrong e = misprint_read (rw blank (after_blank _ other ∙ no_digit_after _ 0 e))
+        first_digit_wrong e = misprint_read (rw blank (sym (after_blank _ refl other) ∙ no_digit_after _ 0 e))
 
     pub after_zero_wrong : number ≡ Some 0 → None ≡ number_in l
-    after_zero_wrong e = misprint_read (rw e (after_zero (get_or l k 0)))
+    after_zero_wrong e = misprint_read (rw e (sym (after_zero (get_or l k 0) refl refl)))
 
     module _ {n : ℕ} (has : number ≡ Some n) (positive : n ≡ 0 → ⊥) where
       pub next_digit_read : (d : ℕ) → Some d ≡ digit (get_or l k 0) → made (Some (10 * n + d)) ≡ field (take (k + 1) l)
-      next_digit_read d e = next_read (Some (10 * n + d)) (rw has (after_number _ positive ∙ some_digit_after _ n e))
+      next_digit_read d e = next_read (Some (10 * n + d)) (rw has (sym (after_number _ refl positive) ∙ some_digit_after _ n e))
 
       pub next_digit_wrong : None ≡ digit (get_or l k 0) → None ≡ number_in l
-      next_digit_wrong e = misprint_read (rw has (after_number _ positive ∙ no_digit_after _ n e))
+      next_digit_wrong e = misprint_read (rw has (sym (after_number _ refl positive) ∙ no_digit_after _ n e))
 
 -- What `scan` needs of each character.
 pub ruleset reading_steps = (room_for_digit, digit_small, first_digit_wrong, after_zero_wrong)
@@ -280,9 +286,9 @@ last_digit m = go (eqb (m / 10) 0) refl
     go : (b : Bool) → eqb (m / 10) 0 ≡ b → after (cond b Blank (Number (m / 10))) (48 + m % 10) ≡ Number m
     go true e =
         let none : m / 10 ≡ 0 = eqb-true (m / 10) 0 e in
-        after_blank (48 + m % 10) (λ z. omega arith) ∙ digit_more 0 (m % 10) m (omega arith) (omega arith)
+        sym (after_blank (48 + m % 10) refl (λ z. omega arith)) ∙ digit_more 0 (m % 10) m (omega arith) (omega arith)
     go false e =
-        after_number (48 + m % 10) (eqb-false (m / 10) 0 e) ∙ digit_more (m / 10) (m % 10) m (omega arith) (omega arith)
+        sym (after_number (48 + m % 10) refl (eqb-false (m / 10) 0 e)) ∙ digit_more (m / 10) (m % 10) m (omega arith) (omega arith)
 
 next_digit : (m : ℕ) → after (so_far (m / 10)) (digit_or m) ≡ so_far m
 unfolding so_far digit_or
@@ -291,7 +297,7 @@ next_digit m = go (eqb m 0) refl
     go : (b : Bool) → eqb m 0 ≡ b → after (so_far (m / 10)) (cond b 32 (48 + m % 10)) ≡ cond b Blank (Number m)
     go true e =
         let none : m / 10 ≡ 0 = omega (arith, eqb-true m 0 e) in
-        rw none (after_space 32 refl)
+        sym (after_space 32 (rw none) refl)
     go false e = last_digit m
 
 field_padded : (k m : ℕ) → m < 10 ^ k → field (padded k m) ≡ so_far m
