@@ -1,5 +1,5 @@
 -- The scores of a house as they are listed: storey by storey, in the record, and the least of them. Assumes nothing.
-use Rattle.std.proofs.Common.{◌≡◌, refl, sym, ap, ◌∙◌, Bool, true, false, cond, List, [], ◌∷◌, ◌++◌, ℕ, ◌+◌, ◌*◌, ◌<◌, min, zero, suc, ◌-◌, ◌/◌, ◌%◌, ◌≤◌, add-one, arith, length, get_or, drop, eqb}
+use Rattle.std.proofs.Common.{◌≡◌, refl, sym, ap, ◌∙◌, Bool, true, false, cond, List, [], ◌∷◌, ◌++◌, append_assoc, ℕ, ◌+◌, ◌*◌, ◌<◌, min, zero, suc, ◌-◌, ◌/◌, ◌%◌, ◌≤◌, add-one, arith, length, get_or, drop, eqb}
 use native.Mathlib.Nat.{min-le_right}
 use native.Mathlib.Decide.{dec_lt}
 use lib.ListN.{get_or-append}
@@ -13,11 +13,21 @@ use Rattle.diagnosis.specs.House.{InHouse, score_with, full_score, full_quotient
 use Rattle.diagnosis.specs.Answers.{no_numbers, six_numbers, ToldScoring, told_scored, told_refused, Scoring, told_scoring, record_with, record_of, scoring, score_at}
 use Rattle.diagnosis.proofs.AcceptedTables.{storeys_few}
 
--- The least of some scores, and of a storey's two more.
-least_more : (some : List ℕ) (x y : ℕ) → min (min (least_of some) x) y ≡ least_of (some ++ x ∷ y ∷ [])
+-- The least of some scores, and of one more.
+least_more : (some : List ℕ) (x : ℕ) → min (least_of some) x ≡ least_of (some ++ x ∷ [])
 unfolding least_of
-least_more [] x y = omega arith
-least_more (one ∷ others) x y = omega (arith, least_more others x y)
+least_more [] x = omega arith
+least_more (one ∷ others) x = omega (arith, least_more others x)
+
+pub score_more : (f : ℕ → ℕ) (at : ℕ) {least x : ℕ} → least ≡ least_of (joined at (λ i. f i ∷ [])) → x ≡ f at
+    → min least x ≡ least_of (joined (at + 1) (λ i. f i ∷ []))
+unfolding joined
+score_more f at so_far one = rw (so_far, one, add-one) (least_more (joined at (λ i. f i ∷ [])) (f at))
+
+-- And of a storey's two more.
+least_two_more : (some : List ℕ) (x y : ℕ) → min (min (least_of some) x) y ≡ least_of (some ++ x ∷ y ∷ [])
+least_two_more some x y =
+    ap (λ (least : ℕ). min least y) (least_more some x) ∙ least_more (some ++ x ∷ []) y ∙ ap least_of (append_assoc some (x ∷ []) (y ∷ []))
 
 -- The scores of the first storeys, so many, and those of a storey more.
 abbrev pub scores_below : List ℕ → (ℕ → ℕ → ℕ) → ℕ → List ℕ
@@ -31,7 +41,7 @@ joined_next f n = rw add-one
 pub storey_more : (table : List ℕ) (held : ℕ → ℕ → ℕ) (below : ℕ) {least x y : ℕ} → least ≡ least_of (scores_below table held below)
     → x ≡ score_with table (held (below + 1) 1) (below + 1) 1 → y ≡ score_with table (held (below + 1) 2) (below + 1) 2
     → min (min least x) y ≡ least_of (scores_below table held (below + 1))
-storey_more table held below so_far one other = rw (so_far, one, other, joined_next) (least_more (scores_below table held below) _ _)
+storey_more table held below so_far one other = rw (so_far, one, other, joined_next) (least_two_more (scores_below table held below) _ _)
 
 -- A number for each storey and direction is two a storey, and so are the scores.
 numbers_length : (table : List ℕ) (number : ℕ → ℕ → ℕ) → length (storey_by_storey table number) ≡ 2 * storeys table

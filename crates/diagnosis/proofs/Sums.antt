@@ -30,7 +30,7 @@ module _ (walls : List ℕ) (row : ℕ) where
   unfolding solid_at_end in_direction
   wall_solid direction end = rw (wall_cell 2 (lit< tt), wall_cell 3 (lit< tt), wall_cell 7 (lit< tt))
 
-  wall_same : wall_of (part 8 row walls) 0 ≡ wall_of walls row
+  pub wall_same : wall_of (part 8 row walls) 0 ≡ wall_of walls row
   wall_same = rw (wall_cell 4 (lit< tt), wall_cell 5 (lit< tt), wall_cell 6 (lit< tt), wall_cell 7 (lit< tt))
 
   -- What it counts in the storey that it names.
