@@ -1,0 +1,2 @@
+-- The laws about answers that cross to a host.
+pub mod HostAnswers
