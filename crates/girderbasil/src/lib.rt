@@ -84,6 +84,9 @@ impl From<Answer> for HostAnswer {
     }
 }
 
+// The number of a table that is scored, which no refusal has.
+const SCORED: u32 = 0;
+
 impl From<Result<Record, Refusal>> for HostScoring {
     ghost from_gives = { λ scored host. told_host_scoring host ≡ told_scoring scored };
 
@@ -96,6 +99,7 @@ impl From<Result<Record, Refusal>> for HostScoring {
                 let remainders = quotients.map(|quotient| quotient.remainder);
                 let divisors = quotients.map(|quotient| quotient.divisor);
                 HostScoring {
+                    number: SCORED,
                     scores,
                     count: found.count,
                     verdict: found.verdict.into(),

@@ -31,7 +31,6 @@ nothing = record {
 
 pub returns-in-Ok : goal.returns-in-Ok
 returns-in-Ok c =
-    let number : c.default.result.number ≡ 0 = search rules in
     let row : c.default.result.row ≡ 0 = search rules in
     let column : c.default.result.column ≡ 0 = search rules in
     let quotients : List Quotient = c.in-Ok.found.quotients in
@@ -47,7 +46,7 @@ returns-in-Ok c =
     let divisors : c.map-divisors.result ≡ map (λ (q : Quotient). q.divisor) quotients =
     six_mapped (λ (q : Quotient). q.divisor) none _ _ six c.map-divisors.ensures.items.long
     (λ at inside. let called = c.map-divisors.ensures.items.at at none 0 inside in search rules) in
-    rw (number, row, column, c.in-Ok.is, c.into.ensures, started, hundredths, remainders, divisors) refl
+    rw (row, column, c.in-Ok.is, c.into.ensures, started, hundredths, remainders, divisors) refl
 
 pub returns-in-Err : goal.returns-in-Err
 returns-in-Err c =
