@@ -8,8 +8,8 @@ ghost use Rattle.survey.specs.Judgement.{fault_told, outside, leftmost, place_be
 ghost use Rattle.survey.specs.Internal.{told_by_row};
 
 use crate::columns::KIND;
+use crate::kind::RowKind;
 use crate::ranges::Range;
-use crate::table::is_wall;
 use answer::{ROW, Reason, Refusal};
 
 // A table of whole rows, not too many. `storeys` are the house's, by its row, whether or not that has a fault.
@@ -77,7 +77,7 @@ impl Row<'_> {
     pub(crate) fn is_wall(&self) -> bool
         ensures { result ≡ is_wall self.now.table.numbers.now self.now.at }
     {
-        is_wall(self.table.numbers, self.at)
+        self.number(KIND) == RowKind::Wall as u32
     }
 
     // What a test of this row answers, as a refusal by this row where it found a fault. By `map_err` its proof
