@@ -1,9 +1,9 @@
 // The numbers that a column may hold, and the columns of each kind of row, as specs/Ranges.antt has them.
 ghost use Rattle.std.specs.Prelude.{◌≡◌, ◌<◌, ◌&&◌, leb};
 ghost use Rattle.survey.specs.Table.{storeys, ends_storey};
-ghost use Rattle.survey.specs.Ranges.{◌to◌, exactly, zone, is_opening, solid, house_columns, storey_columns, ends_columns, wall_ranges, wall_columns, parts_columns, dates_columns};
+ghost use Rattle.survey.specs.Ranges.{◌to◌, exactly, zone, is_opening, solid, house_columns, storey_columns, ends_columns, wall_ranges, parts_columns, dates_columns};
 
-use crate::columns::{WALL_TYPE, ZONE};
+use crate::columns::ZONE;
 use crate::kind::{RowKind, WallType};
 use crate::row::Row;
 
@@ -56,7 +56,7 @@ fn zone(number: u32) -> u32
 }
 
 // Whether a wall's type is a window or a full-height opening.
-fn is_opening(number: u32) -> bool
+pub(crate) fn is_opening(number: u32) -> bool
     ensures { result ≡ is_opening number }
 {
     number == WallType::Window as u32 || number == WallType::FullHeightOpening as u32
@@ -181,11 +181,5 @@ impl Row<'_> {
             Range::new(storey, top),
             Range::UNUSED,
         ]
-    }
-
-    pub(crate) fn wall_columns(&self) -> [Range; 8]
-        ensures { result ≡ wall_columns self.now.table.numbers.now self.now.at }
-    {
-        wall_ranges(self.table.storeys, self.number(WALL_TYPE))
     }
 }

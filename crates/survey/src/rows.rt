@@ -3,12 +3,15 @@
 
 ghost use Rattle.std.specs.Prelude.{◌≡◌, ◌<◌, ◌≤◌, ◌+◌, ◌*◌};
 ghost use Rattle.survey.specs.Table.{storeys, first_wall};
-ghost use Rattle.survey.specs.Judgement.{fault_told, house_fault, storey_fault, ends_fault, storey_before, wall_fault, parts_fault, days_fault, order_fault, dates_fault};
+ghost use Rattle.survey.specs.Ranges.{wall_columns};
+ghost use Rattle.survey.specs.Judgement.{fault_told, columns_fault, house_fault, storey_fault, ends_fault, storey_before, wall_fault, parts_fault, days_fault, order_fault, dates_fault};
 
 use crate::columns::{
     COMPLETION, END_AREA, FLOOR_AREA, KIND, MARKED, PRESENT, START_OF_WORK, STOREY, SURVEY_DAY,
+    WALL_TYPE,
 };
-use crate::ranges::{dates_columns, parts_columns, storey_columns};
+use crate::kind::WallType;
+use crate::ranges::{dates_columns, is_opening, parts_columns, storey_columns, wall_ranges};
 use crate::row::{Row, RowFault};
 use answer::{MOST_WALLS, Reason};
 use calendar::is_day;
@@ -63,6 +66,18 @@ impl Row<'_> {
         before.number(STOREY)
     }
 
+    // Refusals 3 and 4 for a wall whose storey does not fall. An opening has a window's ranges, and any other wall a
+    // solid one's. Each is tested apart: with ranges that are chosen column by column, a wall takes a third longer.
+    fn check_wall_columns(&self) -> Result<(), RowFault>
+        ensures { fault_told result ≡ columns_fault 1 (wall_columns self.now.table.numbers.now self.now.at) self.now.table.numbers.now self.now.at }
+    {
+        let storeys = self.table.storeys;
+        if is_opening(self.number(WALL_TYPE)) {
+            return self.check_columns(&wall_ranges(storeys, WallType::Window as u32), 1);
+        }
+        self.check_columns(&wall_ranges(storeys, WallType::Solid as u32), 1)
+    }
+
     // A wall row.
     pub(crate) fn check_wall(&self) -> Result<(), RowFault>
         requires { first_wall self.now.table.numbers.now ≤ self.now.at }
@@ -71,7 +86,7 @@ impl Row<'_> {
         if self.number(STOREY) < self.storey_before() {
             return Err(RowFault::new(Reason::RowOutOfOrder, KIND));
         }
-        self.check_columns(&self.wall_columns(), 1)?;
+        self.check_wall_columns()?;
         if self.table.first_wall() + MOST_WALLS <= self.at {
             return Err(RowFault::new(Reason::TooManyWalls, KIND));
         }
