@@ -213,7 +213,7 @@ module _ (table : List ℕ) (a : Accepted table) where
 
   ends_clear : (row : ℕ) → storeys table < row → row < first_wall table → none ≡ row_fault table row
   ends_clear row above before =
-      ends_right table row (inside_columns 3 (ends_columns table row) table row (omega arith) (a.ends_inside row above before)) (a.ends_fit row above before)
+      ends_right table row (inside_columns 3 (ends_columns table row) table row (omega arith) (a.ends_inside row above before)) (le_refl 0) (a.ends_fit row above before)
       ∙ row_ends table row (omega arith) above before
 
   storey_rises : (row : ℕ) → first_wall table ≤ row → row < parts_row table → storey_before table row ≤ cell table row 1
@@ -229,14 +229,14 @@ module _ (table : List ℕ) (a : Accepted table) where
 
   wall_clear : (row : ℕ) → first_wall table ≤ row → row < parts_row table → none ≡ row_fault table row
   wall_clear row past before =
-      wall_right table row (storey_rises row past before) (inside_columns 1 (wall_columns table row) table row (omega arith) (a.wall_inside row past before)) (omega (arith, a.few))
+      wall_right table row (storey_rises row past before) (inside_columns 1 (wall_columns table row) table row (omega arith) (a.wall_inside row past before)) (le_refl 0) (omega (arith, a.few))
       ∙ row_wall table row (omega arith) (omega (arith, storeys_known)) past before
 
   parts_clear : none ≡ row_fault table (parts_row table)
   unfolding within
   parts_clear =
       let row = parts_row table in
-      parts_right table row (inside_columns 1 parts_columns table row (omega arith) a.parts_inside)
+      parts_right table row (inside_columns 1 parts_columns table row (omega arith) a.parts_inside) (le_refl 0)
       (eqb-true (bit_and (cell table row 2) (cell table row 1)) (cell table row 2) a.marks_present) (λ e. omega (arith, a.some_present))
       ∙ row_parts table row refl
 
@@ -244,8 +244,8 @@ module _ (table : List ℕ) (a : Accepted table) where
   unfolding dates_fault
   dates_clear =
       let row = dates_row table in
-      passed _ _ (inside_columns 1 dates_columns table row (omega arith) a.dates_inside)
-      (passed _ _ (days_right table row (rw a.days.0) (rw a.days.1) (rw a.days.2)) (order_right table row a.in_order.0 a.in_order.1))
+      passed _ _ (inside_columns 1 dates_columns table row (omega arith) a.dates_inside) (le_refl 0)
+      (passed _ _ (days_right table row (rw a.days.0) (rw a.days.1) (rw a.days.2)) (le_refl 0) (order_right table row a.in_order.0 a.in_order.1))
       ∙ row_dates table row refl
 
   all_clear : (row : ℕ) → row < rows_due table → none ≡ row_fault table row

@@ -26,9 +26,9 @@ row_clear row (Ok done) e = le_refl 0
 row_clear row (Err f) e = search rules
 
 -- The earlier test found none.
-pub passed : {f : Fault} (earlier later : Fault) → none ≡ earlier → f ≡ later → f ≡ earlier then later
+pub passed : {f g : Fault} (earlier later : Fault) → f ≡ earlier → f.number ≤ 0 → g ≡ later → g ≡ earlier then later
 unfolding ◌then◌
-passed earlier later e f = rw (← e) f
+passed {f} earlier later e h g = rw (← e, le-ltb 0 f.number h) g
 
 pub held : {holds : Bool} (f : Fault) → holds ≡ true → f ≡ test holds f
 unfolding test
@@ -47,7 +47,7 @@ pub test_finds : {holds : Bool} (f later : Fault) → holds ≡ true → 0 < f.n
 test_finds f later e h = found (test _ f) later (held f e) h
 
 pub test_passes : {holds : Bool} {g : Fault} (f later : Fault) → holds ≡ false → g ≡ later → g ≡ test holds f then later
-test_passes f later e g = passed (test _ f) later (clear f e) g
+test_passes f later e g = passed (test _ f) later (clear f e) (le_refl 0) g
 
 -- A number in its column's range.
 pub inside : (low high table : List ℕ) (row column : ℕ) → get_or low column 0 ≤ cell table row column → cell table row column ≤ get_or high column 0

@@ -6,7 +6,7 @@ use Rattle.answer.specs.Told.{row_out_of_order, no_such_day, dates_out_of_order}
 use Rattle.answer.specs.Length.{most_walls}
 use Rattle.survey.specs.Table.{cell, storeys, ends_storey, first_wall, parts_row, dates_row}
 use Rattle.survey.specs.Ranges.{ends_columns, wall_columns, parts_columns}
-use Rattle.survey.specs.Judgement.{fault, none, wrong_column, columns_fault, ends_fault, storey_before, wall_fault, within, parts_fault, has_no_day, days_fault, order_fault, dates_fault, house_fault, storey_fault, row_fault}
+use Rattle.survey.specs.Judgement.{Fault, fault, none, wrong_column, columns_fault, ends_fault, storey_before, wall_fault, within, parts_fault, has_no_day, days_fault, order_fault, dates_fault, house_fault, storey_fault, row_fault}
 use Rattle.survey.proofs.FirstInRange.{none_below, some_below}
 use Rattle.survey.proofs.Faults.{error_found, passed, held, clear, test_finds, test_passes}
 
@@ -19,22 +19,22 @@ unfolding wrong_column
 column_none due column after h = test_passes _ _ (le-ltb column due after) (clear _ (le-ltb column 8 h))
 
 -- A row whose columns are in their ranges, by its other tests.
-module _ (table : List ℕ) (row : ℕ) where
-  module _ (ranged : none ≡ columns_fault 3 (ends_columns table row) table row) where
+module _ (table : List ℕ) (row : ℕ) {f : Fault} where
+  module _ (ranged : f ≡ columns_fault 3 (ends_columns table row) table row) (clean : f.number ≤ 0) where
     pub ends_right : cell table row 3 + cell table row 4 ≤ cell table (ends_storey table row) 2 → none ≡ ends_fault table row
     unfolding ends_fault
-    ends_right h = passed _ _ ranged (clear _ (le-ltb _ _ h))
+    ends_right h = passed _ _ ranged clean (clear _ (le-ltb _ _ h))
 
   module _ (rises : storey_before table row ≤ cell table row 1) where
-    module _ (ranged : none ≡ columns_fault 1 (wall_columns table row) table row) where
+    module _ (ranged : f ≡ columns_fault 1 (wall_columns table row) table row) (clean : f.number ≤ 0) where
       pub wall_right : row < first_wall table + most_walls → none ≡ wall_fault table row
       unfolding wall_fault
-      wall_right h = test_passes _ _ (le-ltb _ _ rises) (passed _ _ ranged (clear _ (lt-leb _ _ h)))
+      wall_right h = test_passes _ _ (le-ltb _ _ rises) (passed _ _ ranged clean (clear _ (lt-leb _ _ h)))
 
-  module _ (ranged : none ≡ columns_fault 1 parts_columns table row) where
+  module _ (ranged : f ≡ columns_fault 1 parts_columns table row) (clean : f.number ≤ 0) where
     pub parts_right : bit_and (cell table row 2) (cell table row 1) ≡ cell table row 2 → (cell table row 1 ≡ 0 → ⊥) → none ≡ parts_fault table row
     unfolding parts_fault within
-    parts_right all some = passed _ _ ranged (test_passes _ _ (rw (eq-eqb _ _ all)) (clear _ (ne_eqb _ _ some)))
+    parts_right all some = passed _ _ ranged clean (test_passes _ _ (rw (eq-eqb _ _ all)) (clear _ (ne_eqb _ _ some)))
 
 -- The dates of a row, from the left: the first that is no day, and the first that is before the one to its left.
 module _ (table : List ℕ) (row : ℕ) where
