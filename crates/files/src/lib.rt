@@ -1,5 +1,5 @@
-// How the programs that run files print an answer: as a row. It is all that they share: what comes from the disk and
-// what reaches the terminal no contract can say, so each of them has its own few lines that read and print.
+// How `run_houses` and `run_sheets` print an answer: as a row. What comes from the disk and what reaches the terminal
+// no contract can say, so each program that runs files has its own few lines that read and print.
 //
 // Uses `answer` and std.
 #![tactic(auto)]

@@ -173,9 +173,10 @@ unfolding layout_factor
 layout_mirrored ends floor = pair_mirrored ends.a ends.b floor
 
 -- What the function adds for a limit, 1 where it is reached, is the definition's number.
-pub reached_number : (end : Strengths) (limit : ℕ) → bool_byte (eqb (reached end limit) 1) ≡ reached end limit
+pub reached_added : (end : Strengths) (limit : ℕ) {added : ℕ} {found : Bool} → added ≡ bool_byte found → found ≡ eqb (reached end limit) 1
+    → added ≡ reached end limit
 unfolding reached
-reached_number end limit = one (leb (limit * end.required) (100_000 * end.held))
+reached_added end limit adds finds = adds ∙ ap bool_byte finds ∙ one (leb (limit * end.required) (100_000 * end.held))
   where
     one : (t : Bool) → bool_byte (eqb (cond t 1 0) 1) ≡ cond t 1 0
     one true = refl

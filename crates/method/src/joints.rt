@@ -72,7 +72,8 @@ fn row_of(line: &Line, foundation: u32) -> [u8; 4]
     ]
 }
 
-// The same by the house's snow and the line's number, where the tables of a position have such a line.
+// The same by the house's snow and the line's number, where the tables of a position have such a line. The line is
+// read where it stands: `numbered` would copy it, and a wall would take a tenth more instructions.
 fn row_in<const LINES: usize>(
     tables: &[[Line; LINES]; 4],
     snow: u32,

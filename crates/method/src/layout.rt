@@ -60,7 +60,8 @@ fn reached(end: Strengths, limit: u64) -> bool
 }
 
 // The band of an end, A as 0 to E as 4, by its solid walls' held strength and its required strength. It stays a
-// number, since `Bands`, to which it goes, may hold any.
+// number, since `Bands`, to which it goes, may hold any. The limits are written out: from an array it takes twice
+// the time.
 pub fn band(end: Strengths) -> u32
     ensures { result ≡ band end }
 {

@@ -26,7 +26,8 @@ pub(crate) fn place_of(wall: &[u32; ROW]) -> usize
     2 * (wall[STOREY] as usize - 1) + (wall[DIRECTION] as usize - 1)
 }
 
-// Whether a total of a house of so many storeys is above 60,000 kN.
+// Whether a total of a house of so many storeys is above 60,000 kN. (`any` has an `Option` of a place within, which
+// has another layout in WebAssembly.)
 #[tactic(auto, unfolding(crate::specs::Totals::some_above))]
 pub(crate) fn some_above(held: [u64; 6], storeys: u32) -> bool
     requires { storeys ≤ 3 }

@@ -60,8 +60,9 @@ impl<'a> Table<'a> {
     }
 
     // Tests the walls, and answers the row after them, where the parts are due. Where they end is learned on
-    // the way: a scan for the parts row up front would go through them twice. Inlined into its callers, the loop
-    // would share the registers with all that they do, and each wall would take a fifth longer.
+    // the way: a scan for the parts row up front would go through them twice. Inlined into `judge` and what
+    // that is inlined into, the loop would share the registers with all that they do, and each wall would take a
+    // fifth longer.
     #[inline(never)]
     #[tactic(auto, using(crate::proofs::Judging::fault_passed, crate::proofs::RowFaults::row_wall, crate::proofs::Positions::wall_before_parts, crate::proofs::Positions::parts_row_here))]
     fn check_walls(&self) -> Result<usize, Refusal>

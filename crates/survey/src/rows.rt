@@ -67,7 +67,8 @@ impl Row<'_> {
     }
 
     // Refusals 3 and 4 for a wall whose storey does not fall. An opening has a window's ranges, and any other wall a
-    // solid one's. Each is tested apart: with ranges that are chosen column by column, a wall takes a third longer.
+    // solid one's. Each is tested apart: with ranges that are chosen column by column, a wall takes a third more
+    // instructions.
     fn check_wall_columns(&self) -> Result<(), RowFault>
         ensures { fault_told result ≡ columns_fault 1 (wall_columns self.now.table.numbers.now self.now.at) self.now.table.numbers.now self.now.at }
     {

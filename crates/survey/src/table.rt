@@ -6,7 +6,8 @@ use crate::columns::KIND;
 use crate::kind::RowKind;
 use answer::ROW;
 
-// The number in any row and column, both from 0; none beyond the table.
+// The number in any row and column, both from 0; none beyond the table. (`get` hands out a place, and an `Option`
+// of one has another layout in WebAssembly.)
 fn any_cell(table: &[u32], row: usize, column: usize) -> Option<u32>
     ensures { unwrap_or result 0 ≡ cell table.now row column }
 {

@@ -303,6 +303,22 @@ attributes #0 = {{ nounwind \"target-cpu\"=\"x86-64\" {attribute} }}"
     }
 }
 
+/// What is loaded whole has its parts at x86-64's places; those of a byte and a pointer are others in WebAssembly, and
+/// no instruction is changed to look for them there.
+#[test]
+fn a_byte_and_a_pointer_loaded_whole_are_refused_for_web_assembly() {
+    let module = "target triple = \"x86_64-unknown-linux-gnu\"
+define i64 @girderbasil_read(ptr %a0, i64 %a1) {
+  %r0 = load { i8, ptr }, ptr %a0, align 8
+  ret i64 %a1
+}";
+    let (output, folder) = output_for_module("pair-module", module, &["wasm32"]);
+    let said = text(&output.stderr);
+    assert_eq!(output.status.code(), Some(2), "{said}");
+    assert!(said.ends_with("may be for x86-64 alone\n"), "{said}");
+    assert!(!written(&folder, "wasm32").exists());
+}
+
 /// On ARM64 a function that answers by a pointer needs the header's declaration of it.
 #[test]
 fn a_function_that_the_header_lacks_is_refused() {

@@ -14,4 +14,5 @@ returns-then-table-at g c =
 pub returns : goal.returns
 returns g c =
     let tells = c.in_ok-at.ensures in
-    numbered_read c.args.table.now c.args.number tells.0 c.index-table-at.result (rw (← tells.1) c.if-table-at.false) (rw (← tells.1) c.index-table-at.is)
+    numbered_read c.args.table.now c.args.number tells.0 c.index-table-at.result (rw (← tells.1) c.if-table-at.false)
+    (rw (← tells.1) c.index-table-at.is)
