@@ -4,8 +4,5 @@ use mir.Syntax.{Width}
 use mir.Val.{bits, Fits}
 
 -- The bounds are named, so that they can be computed with.
-pub times_most : {a b : ℕ} (m n : ℕ) → a ≤ m → b ≤ n → a * b ≤ m * n
-times_most m n ha hb = mul-le-mul ha hb
-
 pub times_fits : {w : Width} {a b : ℕ} (m n : ℕ) → a ≤ m → b ≤ n → T (ltb (m * n) (2 ^ bits w)) → Fits w (a * b)
-times_fits {w} m n ha hb small = record { fits = lt_of_le_of_lt (times_most m n ha hb) (ltb→lt (m * n) (2 ^ bits w) small) }
+times_fits {w} m n ha hb small = record { fits = lt_of_le_of_lt (mul-le-mul ha hb) (ltb→lt (m * n) (2 ^ bits w) small) }

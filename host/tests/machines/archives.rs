@@ -303,20 +303,46 @@ attributes #0 = {{ nounwind \"target-cpu\"=\"x86-64\" {attribute} }}"
     }
 }
 
-/// What is loaded whole has its parts at x86-64's places; those of a byte and a pointer are others in WebAssembly, and
-/// no instruction is changed to look for them there.
+/// What is loaded or stored whole has its parts at x86-64's places. Where it holds a pointer they are others in WebAssembly,
+/// but for a slice's, and no instruction is changed to look for them there.
 #[test]
-fn a_byte_and_a_pointer_loaded_whole_are_refused_for_web_assembly() {
-    let module = "target triple = \"x86_64-unknown-linux-gnu\"
-define i64 @girderbasil_read(ptr %a0, i64 %a1) {
-  %r0 = load { i8, ptr }, ptr %a0, align 8
+fn a_pointer_in_what_is_loaded_whole_is_refused_for_web_assembly_but_in_a_slice() {
+    let output_for = |line: &str| {
+        let module = format!(
+            "target triple = \"x86_64-unknown-linux-gnu\"
+%named = type {{ i8, ptr }}
+define i64 @girderbasil_read(ptr %a0, i64 %a1) {{
+  {line}
   ret i64 %a1
-}";
-    let (output, folder) = output_for_module("pair-module", module, &["wasm32"]);
-    let said = text(&output.stderr);
-    assert_eq!(output.status.code(), Some(2), "{said}");
-    assert!(said.ends_with("may be for x86-64 alone\n"), "{said}");
-    assert!(!written(&folder, "wasm32").exists());
+}}"
+        );
+        output_for_module("whole-module", &module, &["wasm32"])
+    };
+    for line in [
+        "%r0 = load { ptr, i64 }, ptr %a0, align 8",
+        "%r0 = load { i8, i64 }, ptr %a0, align 8",
+        "store { ptr, i64 } { ptr null, i64 0 }, ptr %a0, align 8",
+    ] {
+        let (output, folder) = output_for(line);
+        let said = text(&output.stderr);
+        assert_eq!(output.status.code(), Some(0), "{line}: {said}");
+        assert!(written(&folder, "wasm32").exists(), "{line}");
+    }
+    for line in [
+        "%r0 = load { i8, ptr }, ptr %a0, align 8",
+        "%r0 = load { { i64, i8 }, ptr }, ptr %a0, align 8",
+        "%r0 = load { i8, { ptr, i64 } }, ptr %a0, align 8",
+        "%r0 = load <{ i8, ptr }>, ptr %a0, align 1",
+        "%r0 = load [2 x ptr], ptr %a0, align 8",
+        "%r0 = load %named, ptr %a0, align 8",
+        "store { i8, ptr } { i8 0, ptr null }, ptr %a0, align 8",
+    ] {
+        let (output, folder) = output_for(line);
+        let said = text(&output.stderr);
+        assert_eq!(output.status.code(), Some(2), "{line}: {said}");
+        assert!(said.ends_with("may be for x86-64 alone\n"), "{said}");
+        assert!(!written(&folder, "wasm32").exists(), "{line}");
+    }
 }
 
 /// On ARM64 a function that answers by a pointer needs the header's declaration of it.
